@@ -1,0 +1,138 @@
+-- Laws of cue lines: their fields, read and written. Assumes nothing.
+use mathlib.Core.Path.{_≡_, refl, sym, ap, _∙_}
+use mathlib.Core.Bool.{Bool, true, false, _&&_}
+use mathlib.Core.List.{List, [], _∷_, _++_}
+use Prim.Native.Nat.{ℕ, _+_, _-_, _≤_, max}
+use native.Mathlib.Nat.{zero-add}
+use native.Mathlib.Omega.{arith}
+use lib.Dec.{leb}
+use lib.ListN.{length, take, drop, length-append, length-drop, drop-of-length-le}
+use lib.Seq.{take-all, sets}
+use borrow.Author.Tests.{leb-true}
+use Rattle.lines.specs.Lines.{upTo}
+use Rattle.numbers.specs.Number.{numberOf}
+use Rattle.numbers.specs.declared.Number.{Number}
+use Rattle.numbers.specs.declared.Number.the-variants.{Value}
+use Rattle.numbers.specs.declared.Number.the-variants.{Malformed as NoNumber}
+use Rattle.buffers.proofs.Laws.{sets-append}
+use Rattle.records.specs.Record.{fieldText}
+use Rattle.refusals.specs.declared.Refusal.the-variants.{CueOutOfRange}
+use Rattle.refusals.specs.declared.Refusal.the-variants.{Malformed as MalformedLine}
+use Rattle.cues.specs.declared.Cue.{Cue}
+use Rattle.cues.specs.declared.Fields.{Fields}
+use Rattle.cues.specs.declared.Fields.the-variants.{Numbers, Malformed}
+use Rattle.cues.specs.declared.CueLine.the-variants.{InRange as Found, Refused as RefusedLine}
+use Rattle.cues.specs.Cue.{inRange}
+use Rattle.cues.specs.CueLine.{field, others, threeNumbers, fieldsOf, ranged}
+use Rattle.cues.specs.CueText.{cueText}
+
+true-false : false ≡ true → ⊥
+true-false q = let z : _≡_ {A = ℕ} 0 1 = cc in omega arith
+
+-- ---- the range of three numbers
+pub record Bounds (t m p : ℕ) : Type 0 where
+  pub time : t ≤ 3599999
+  pub module-low : 1 ≤ m
+  pub module-high : m ≤ 99
+  pub pin-low : 1 ≤ p
+  pub pin-high : p ≤ 32
+
+pub bounds : (t m p : ℕ) → inRange t m p ≡ true → Bounds t m p
+bounds t m p e = by-tests (leb t 3599999) (leb 1 m) (leb m 99) (leb 1 p) (leb p 32) refl refl refl refl refl e
+  where
+    by-tests : (a b c d f : Bool) → leb t 3599999 ≡ a → leb 1 m ≡ b → leb m 99 ≡ c → leb 1 p ≡ d → leb p 32 ≡ f
+        → a && (b && c) && (d && f) ≡ true → Bounds t m p
+    by-tests true true true true true ea eb ec ed ef q = record {
+      time = leb-true _ _ ea;
+      module-low = leb-true _ _ eb;
+      module-high = leb-true _ _ ec;
+      pin-low = leb-true _ _ ed;
+      pin-high = leb-true _ _ ef;
+    }
+    by-tests false b c d f ea eb ec ed ef q = absurd (true-false q)
+    by-tests true false c d f ea eb ec ed ef q = absurd (true-false q)
+    by-tests true true false d f ea eb ec ed ef q = absurd (true-false q)
+    by-tests true true true false f ea eb ec ed ef q = absurd (true-false q)
+    by-tests true true true true false ea eb ec ed ef q = absurd (true-false q)
+
+-- ---- written
+pub text-length : (c : Cue)
+    → length (cueText c)
+    ≡ length (fieldText (c .time) 44) + (length (fieldText (c .«module») 44) + length (fieldText (c .pin) 10))
+unfolding cueText
+text-length c =
+    length-append (fieldText (c .time) 44) (fieldText (c .«module») 44 ++ fieldText (c .pin) 10)
+    ∙ ap (λ (n : ℕ). length (fieldText (c .time) 44) + n)
+    (length-append (fieldText (c .«module») 44) (fieldText (c .pin) 10))
+
+pub text-stored : (buf m₁ m₂ m₃ : List ℕ) (c : Cue) (at a b : ℕ) → a ≡ at + length (fieldText (c .time) 44)
+    → m₁ ≡ sets buf at (fieldText (c .time) 44) → b ≡ a + length (fieldText (c .«module») 44)
+    → m₂ ≡ sets m₁ a (fieldText (c .«module») 44) → m₃ ≡ sets m₂ b (fieldText (c .pin) 10)
+    → m₃ ≡ sets buf at (cueText c)
+unfolding cueText
+text-stored buf m₁ m₂ m₃ c at a b ea e₁ eb e₂ e₃ =
+    e₃
+    ∙ rw (e₂, eb) (sym (sets-append (fieldText (c .«module») 44) (fieldText (c .pin) 10) m₁ a)
+    ∙ rw (e₁, ea)
+    (sym (sets-append (fieldText (c .time) 44) (fieldText (c .«module») 44 ++ fieldText (c .pin) 10) buf at)))
+
+-- ---- read
+number-nil : numberOf [] ≡ NoNumber
+unfolding numberOf
+number-nil = refl
+
+last-bad : (x y : Number) → threeNumbers x y NoNumber ≡ Malformed
+last-bad NoNumber y = refl
+last-bad (Value t) NoNumber = refl
+last-bad (Value t) (Value m) = refl
+
+others-none : (l : List ℕ) → upTo 44 l ≡ length l → others l ≡ []
+others-none l e = drop-of-length-le l {i = upTo 44 l + 1} (omega arith)
+
+pub one-comma : (l : List ℕ) → upTo 44 (others l) ≡ length (others l) → fieldsOf l ≡ Malformed
+unfolding fieldsOf
+one-comma l e =
+    ap (λ (s : List ℕ). threeNumbers (numberOf (field l)) (numberOf (field (others l))) (numberOf s))
+    (others-none (others l) e)
+    ∙ (ap (threeNumbers (numberOf (field l)) (numberOf (field (others l)))) number-nil
+    ∙ last-bad (numberOf (field l)) (numberOf (field (others l))))
+
+pub no-comma : (l : List ℕ) → upTo 44 l ≡ length l → fieldsOf l ≡ Malformed
+unfolding upTo
+no-comma l e = one-comma l (rw (others-none l e))
+
+-- the bound that a search from place 0 on gives
+pub from-start : (r n : ℕ) → r ≤ max 0 n → r ≤ n
+from-start r n h = omega arith
+
+-- the part behind a place is what is left
+pub rest-is : (l : List ℕ) (a : ℕ) → take (length l - a) (drop a l) ≡ drop a l
+rest-is l a = take-all (length l - a) (drop a l) (omega (arith, length-drop a l))
+
+pub three-fields : (l rest : List ℕ) (a b : ℕ) (t m p : Number) (r : Fields) → a ≡ 0 + upTo 44 (drop 0 l)
+    → rest ≡ take (length l - (a + 1)) (drop (a + 1) l) → b ≡ 0 + upTo 44 (drop 0 rest) → t ≡ numberOf (take a l)
+    → m ≡ numberOf (take b rest) → p ≡ numberOf (take (length rest - (b + 1)) (drop (b + 1) rest))
+    → r ≡ threeNumbers t m p → r ≡ fieldsOf l
+unfolding fieldsOf
+three-fields l rest a b t m p r ea er eb et em ep e =
+    let a′ : a ≡ upTo 44 l = ea ∙ zero-add (upTo 44 l) in
+    let r′ : rest ≡ others l = er ∙ (rest-is l (a + 1) ∙ ap (λ (n : ℕ). drop (n + 1) l) a′) in
+    let b′ : b ≡ upTo 44 (others l) = eb ∙ (zero-add (upTo 44 rest) ∙ ap (upTo 44) r′) in
+    let p′ : p ≡ numberOf (others (others l)) = ep ∙ (ap numberOf (rest-is rest (b + 1)) ∙ rw (r′, b′)) in
+    e ∙ rw (et, em, p′) (rw (a′, r′, b′))
+
+pub values : (t m p : Number) (a b c : ℕ) → t ≡ Value a → m ≡ Value b → p ≡ Value c
+    → Numbers a b c ≡ threeNumbers t m p
+values t m p a b c et em ep = rw (et, em, ep)
+
+-- ---- the cue of a line's numbers
+pub line-malformed : (f : Fields) → f ≡ Malformed → RefusedLine MalformedLine ≡ ranged f
+line-malformed f e = rw e
+
+pub line-in-range : (f : Fields) (t m p : ℕ) (b : Bool) (c : Cue) → f ≡ Numbers t m p → b ≡ inRange t m p → b ≡ true
+    → c ≡ record { time = t; «module» = m; pin = p } → Found c ≡ ranged f
+line-in-range f t m p b c ef eb t′ ec = rw (ef, ← eb, t′, ec)
+
+pub line-out-of-range : (f : Fields) (t m p : ℕ) (b : Bool) → f ≡ Numbers t m p → b ≡ inRange t m p → b ≡ false
+    → RefusedLine CueOutOfRange ≡ ranged f
+line-out-of-range f t m p b ef eb t′ = rw (ef, ← eb, t′)

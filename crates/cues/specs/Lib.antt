@@ -1,0 +1,4 @@
+pub mod Cue
+pub mod CueLine
+pub mod CueText
+pub mod Theorems

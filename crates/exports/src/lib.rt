@@ -1,0 +1,31 @@
+// The functions that tests and benchmarks call from Rust, under C names.
+//
+// A slice passes as a pointer and a length. Nothing checks a foreign declaration against this file, so
+// the boundary is kept to numbers and bytes.
+ghost use mathlib.Core.Path.{_≡_};
+ghost use Rattle.checksum.specs.Checksum.{checksumFrom};
+ghost use Rattle.exports.specs.Report.{exported};
+use buffers::Written;
+use checksum::checksum_from;
+use refusals::refusal_number;
+use scripts::write_report;
+
+// Writes what `cue_format` prints of a text to the front of the buffer, and answers how many bytes that is; a buffer
+// that is too short stays as it was, and the answer is the refusal's number above 2^32.
+#[no_mangle]
+pub extern "C" fn lizkorpe_format(text: &[u8], buf: &mut [u8]) -> u64
+    ensures { λ r. ⌜ (r, now (buf .exit)) ≡ exported (now (text .entry)) (now (buf .entry)) ⌝ }
+{
+    match write_report(buf, text) {
+        Written::Upto(end) => end as u64,
+        Written::Refused(refusal) => 4294967296 + refusal_number(refusal),
+    }
+}
+
+// The checksum of a text, continued from an earlier one.
+#[no_mangle]
+pub extern "C" fn lizkorpe_checksum(before: u32, text: &[u8]) -> u32
+    ensures { λ r. ⌜ r ≡ checksumFrom before (now (text .entry)) ⌝ }
+{
+    checksum_from(before, text)
+}

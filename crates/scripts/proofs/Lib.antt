@@ -1,0 +1,4 @@
+pub mod Examples
+pub mod ReadLaws
+pub mod Theorems
+pub mod WriteLaws

@@ -1,0 +1,78 @@
+-- `scripts::writing::format_script` meets its contract. Assumes nothing.
+use mathlib.Core.Path.{sym, ap}
+use Rattle.scripts.specs.ScriptText.{normal}
+use Rattle.scripts.proofs.WriteLaws.{format-refused, format-written}
+use borrow.Author.Needs.{needs}
+use Rattle.scripts.proofs.writing.format_script.Statement.{statement}
+use Rattle.scripts.proofs.writing.format_script.Tie as tie
+use Rattle.scripts.proofs.writing.format_script.Reads as reads
+use Rattle.scripts.proofs.writing.format_script.Lts as lts
+use Rattle.scripts.proofs.reading.read_script.Reads as read-script-reads
+use Rattle.scripts.proofs.writing.write_script.Reads as write-script-reads
+
+read-script-requires : tie.Need-read-script-requires
+read-script-requires c κs = search needs
+
+enum-known-outcome : tie.Need-enum-known-outcome
+enum-known-outcome c = search needs
+
+returns : tie.Need-returns
+returns c =
+    let q = c .before in
+    let r = q .before .before .read-script in
+    let a = q .before .before .before .before .before .args in
+    format-refused (a .text .now) _ (a .buf .now) _ (r .ensures) _ _ (q .outcome .given .1)
+
+enum-told : tie.Need-enum-told
+enum-told c = search needs
+
+write-script-requires : tie.Need-write-script-requires
+write-script-requires c κs = search needs
+
+enum-known-end : tie.Need-enum-known-end
+enum-known-end c = search needs
+
+enum-known-refusal : tie.Need-enum-known-refusal
+enum-known-refusal c = search needs
+
+same-length : tie.Need-same-length
+same-length c = search needs
+
+returns-2 : tie.Need-returns-2
+returns-2 c =
+    let e = c .before in
+    let w = e .before .before .before .before in
+    let k = w .before .before .before in
+    let r = k .before .before .read-script in
+    let a = k .before .before .before .before .before .args in
+    format-written (a .text .now) _ (a .buf .now) _ (r .ensures) (w .write-script .result) _ (w .write-script .last .0) (k .enum-told .given .1)
+    (w .write-script .ensures) (sym (ap normal (e .end .given .1)))
+
+same-length-2 : tie.Need-same-length-2
+same-length-2 c = search needs
+
+returns-3 : tie.Need-returns-3
+returns-3 c =
+    let e = c .before in
+    let w = e .before .before .before .before in
+    let k = w .before .before .before in
+    let r = k .before .before .read-script in
+    let a = k .before .before .before .before .before .args in
+    format-written (a .text .now) _ (a .buf .now) _ (r .ensures) (w .write-script .result) _ (w .write-script .last .0) (k .enum-told .given .1)
+    (w .write-script .ensures) (sym (ap normal (e .refusal .given .1)))
+
+pub format-script-spec : {M : Type 1} → statement M
+format-script-spec =
+    tie.close
+    (tie.spec
+    read-script-requires
+    enum-known-outcome
+    returns
+    enum-told
+    write-script-requires
+    enum-known-end
+    enum-known-refusal
+    same-length
+    returns-2
+    same-length-2
+    returns-3)

@@ -1,0 +1,80 @@
+-- `scripts::writing::write_report` meets its contract. Assumes nothing.
+use mathlib.Core.Path.{_≡_, ap, _∙_}
+use mathlib.Core.List.{List}
+use Prim.Native.Nat.{ℕ}
+use Rattle.buffers.specs.Written.{writtenAt}
+use Rattle.records.specs.Record.{recordText}
+use Rattle.lines.specs.Ascii.{bytes}
+use Rattle.scripts.proofs.WriteLaws.{report-refused, report-accepted}
+use borrow.Author.Needs.{needs}
+use Rattle.scripts.proofs.writing.write_report.Statement.{statement}
+use Rattle.scripts.proofs.writing.write_report.Tie as tie
+use Rattle.scripts.proofs.writing.write_report.Reads as reads
+use Rattle.scripts.proofs.writing.write_report.Lts as lts
+use Rattle.records.proofs.write_record.Reads as write-record-reads
+use Rattle.refusals.proofs.refusal_number.Reads as refusal-number-reads
+use Rattle.scripts.proofs.reading.read_script.Reads as read-script-reads
+use Rattle.scripts.proofs.writing.write_script.Reads as write-script-reads
+
+read-script-requires : tie.Need-read-script-requires
+read-script-requires c κs = search needs
+
+enum-known-outcome : tie.Need-enum-known-outcome
+enum-known-outcome c = search needs
+
+slice-aggregate-write-record : tie.Need-slice-aggregate-write-record
+slice-aggregate-write-record c = search needs
+
+refusal-number-requires : tie.Need-refusal-number-requires
+refusal-number-requires c κs = search needs
+
+write-record-requires : tie.Need-write-record-requires
+write-record-requires c κs = search needs
+
+same-length : tie.Need-same-length
+same-length c = search needs
+
+returns : tie.Need-returns
+returns c =
+    let w = c .before .before in
+    let n = w .before in
+    let q = n .before .before .before .before in
+    let r = q .before .before .read-script in
+    let a = q .before .before .before .before .before .args in
+    let e = report-refused (a .text .now) _ (a .buf .now) _ (r .ensures) _ _ (q .outcome .given .1) in
+    w .write-record .ensures
+    ∙ (ap (λ (m : ℕ). writtenAt (a .buf .now) 0 (recordText (bytes "refused") m (q .outcome .given .0 .1 .0))) (n .refusal-number .ensures .0) ∙ ap (writtenAt (a .buf .now) 0) e)
+
+enum-told : tie.Need-enum-told
+enum-told c = search needs
+
+write-script-requires : tie.Need-write-script-requires
+write-script-requires c κs = search needs
+
+same-length-2 : tie.Need-same-length-2
+same-length-2 c = search needs
+
+returns-2 : tie.Need-returns-2
+returns-2 c =
+    let w = c .before .before in
+    let k = w .before .before .before in
+    let r = k .before .before .read-script in
+    let a = k .before .before .before .before .before .args in
+    let e = report-accepted (a .text .now) _ (a .buf .now) _ (r .ensures) (k .enum-told .given .1) in
+    w .write-script .ensures ∙ ap (writtenAt (a .buf .now) 0) e
+
+pub write-report-spec : {M : Type 1} → statement M
+write-report-spec =
+    tie.close
+    (tie.spec
+    read-script-requires
+    enum-known-outcome
+    slice-aggregate-write-record
+    refusal-number-requires
+    write-record-requires
+    same-length
+    returns
+    enum-told
+    write-script-requires
+    same-length-2
+    returns-2)

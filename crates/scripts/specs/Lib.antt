@@ -1,0 +1,4 @@
+pub mod Count
+pub mod Script
+pub mod ScriptText
+pub mod Theorems

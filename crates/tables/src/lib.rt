@@ -1,0 +1,70 @@
+// Sorted tables: keys in the first n words of a lent slice, in rising order.
+//
+// The script is such a table with no key twice, the queue one in which keys may repeat. Searching goes by
+// the order, in as many steps as the table's length has bits. A `requires` asks for what a table is:
+// that its n words are there and in order.
+ghost use mathlib.Core.Path.{_≡_};
+ghost use mathlib.Core.List.{_∷_, _++_};
+ghost use Prim.Native.Nat.{_+_, _-_, _≤_, _<_};
+ghost use lib.ListN.{length, take, drop};
+ghost use Rattle.tables.specs.Table.{Ordered, rankOf, memberOf};
+
+// How many keys are below `key`: where it stands, or would stand.
+pub fn rank(keys: &[u64], n: usize, key: u64) -> usize
+    requires { ⌜ (n ≤ length (now keys)) × Ordered 0 (take n (now keys)) ⌝ }
+    ensures { λ r. ⌜ (r ≡ rankOf key (take n (now (keys .entry)))) × (r ≤ n) ⌝ }
+{
+    let mut lo = 0;
+    let mut hi = n;
+    while lo < hi {
+        let mid = lo + (hi - lo) / 2;
+        if keys[mid] < key {
+            lo = mid + 1;
+        } else {
+            hi = mid;
+        }
+    }
+    lo
+}
+
+// Whether the key stands in the table, by its rank.
+pub fn stands_at(keys: &[u64], n: usize, at: usize, key: u64) -> bool
+    requires { ⌜ (n ≤ length (now keys)) × Ordered 0 (take n (now keys)) ⌝ }
+    requires { ⌜ at ≡ rankOf key (take n (now keys)) ⌝ }
+    ensures { λ r. ⌜ r ≡ memberOf key (take n (now (keys .entry))) ⌝ }
+{
+    if at < n {
+        return keys[at] == key;
+    }
+    false
+}
+
+// Puts the key at a place, and moves those from there on up by one.
+pub fn insert_at(keys: &mut [u64], n: usize, at: usize, key: u64)
+    requires { ⌜ (at ≤ n) × (n < length (now keys)) ⌝ }
+    ensures { λ r. ⌜ take (n + 1) (now (keys .exit))
+        ≡ take at (take n (now (keys .entry))) ++ key ∷ drop at (take n (now (keys .entry))) ⌝ }
+{
+    let mut i = at;
+    let mut carry = key;
+    while i < n {
+        let x = keys[i];
+        keys[i] = carry;
+        carry = x;
+        i += 1;
+    }
+    keys[n] = carry;
+}
+
+// Takes out the key at a place, and moves those behind it down by one.
+pub fn remove_at(keys: &mut [u64], n: usize, at: usize)
+    requires { ⌜ (at < n) × (n ≤ length (now keys)) ⌝ }
+    ensures { λ r. ⌜ take (n - 1) (now (keys .exit))
+        ≡ take at (take n (now (keys .entry))) ++ drop (at + 1) (take n (now (keys .entry))) ⌝ }
+{
+    let mut i = at;
+    while i + 1 < n {
+        keys[i] = keys[i + 1];
+        i += 1;
+    }
+}
