@@ -1,4 +1,3 @@
-pub mod Examples
 pub mod ReadLaws
 pub mod Theorems
 pub mod WriteLaws
