@@ -1,5 +1,5 @@
 -- The number that stands for a writer's answer. Assumes nothing.
-use mathlib.Core.Path.{_≡_, ap}
+use mathlib.Core.Path.{_≡_}
 use mathlib.Core.List.{List}
 use Prim.Native.Nat.{ℕ}
 use Rattle.buffers.specs.declared.Written.{Written}

@@ -1,11 +1,11 @@
 -- Laws of fields and records in a buffer. Assumes nothing.
-use mathlib.Core.Path.{_≡_, refl, sym, ap, _∙_}
+use mathlib.Core.Path.{_≡_, sym, ap, _∙_}
 use mathlib.Core.List.{List, [], _∷_, _++_}
-use Prim.Native.Nat.{ℕ, suc, _+_, _≤_, _<_}
+use Prim.Native.Nat.{ℕ, _+_}
 use native.Mathlib.Omega.{arith}
 use native.Mathlib.Numerals.{add-one}
 use lib.ListN.{length, set, length-append}
-use lib.Seq.{sets, length-sets}
+use lib.Seq.{sets}
 use Rattle.buffers.proofs.Laws.{sets-append}
 use Rattle.numbers.specs.Digits.{digitsOf}
 use Rattle.records.specs.Record.{fieldText, recordText}
@@ -32,6 +32,8 @@ pub record-stored : (buf m₁ m₂ m₃ word : List ℕ) (at end next a b : ℕ)
     → m₃ ≡ sets m₂ next (fieldText b 10) → m₃ ≡ sets buf at (recordText word a b)
 unfolding recordText
 record-stored buf m₁ m₂ m₃ word at end next a b e₁ ee en e₂ e₃ =
-    let fields : sets (set m₁ end 44) (end + 1) (fieldText a 44 ++ fieldText b 10) ≡ m₃ = sets-append (fieldText a 44) (fieldText b 10) (set m₁ end 44) (end + 1) ∙ sym (e₃ ∙ rw (e₂, en)) in
-    sym (sets-append word (44 ∷ (fieldText a 44 ++ fieldText b 10)) buf at
-    ∙ (rw (← e₁, ← ee) (ap (λ (i : ℕ). sets (set m₁ end 44) i (fieldText a 44 ++ fieldText b 10)) (sym (add-one end)) ∙ fields)))
+    let text = fieldText a 44 ++ fieldText b 10 in
+    let fields : sets (set m₁ end 44) (end + 1) text ≡ m₃
+    = sets-append (fieldText a 44) (fieldText b 10) (set m₁ end 44) (end + 1) ∙ sym (e₃ ∙ rw (e₂, en)) in
+    sym (sets-append word (44 ∷ text) buf at
+    ∙ (rw (← e₁, ← ee) (ap (λ (i : ℕ). sets (set m₁ end 44) i text) (sym (add-one end)) ∙ fields)))

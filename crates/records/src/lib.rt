@@ -17,7 +17,8 @@ use refusals::Refusal;
 // The digits of n and a byte behind them, at a place where they fit, and the place behind that.
 fn put_field(buf: &mut [u8], at: usize, n: u64, behind: u8) -> usize
     requires { ⌜ at + length (fieldText n behind) ≤ length (now buf) ⌝ }
-    ensures { λ r. ⌜ (r ≡ at + length (fieldText n behind)) × (now (buf .exit) ≡ sets (now (buf .entry)) at (fieldText n behind)) ⌝ }
+    ensures { λ r. ⌜ (r ≡ at + length (fieldText n behind))
+        × (now (buf .exit) ≡ sets (now (buf .entry)) at (fieldText n behind)) ⌝ }
 {
     let Written::Upto(end) = write_number(buf, at, n) else {
         return at;
@@ -53,7 +54,8 @@ fn put_record(buf: &mut [u8], at: usize, word: &[u8], first: u64, second: u64) -
 
 // Writes the line `word,first,second` with its LF at a place of the buffer, if it fits there.
 pub fn write_record(buf: &mut [u8], at: usize, word: &[u8], first: u64, second: u64) -> Written
-    ensures { λ r. ⌜ (r, now (buf .exit)) ≡ writtenAt (now (buf .entry)) at (recordText (now (word .entry)) first second) ⌝ }
+    ensures { λ r. ⌜ (r, now (buf .exit))
+        ≡ writtenAt (now (buf .entry)) at (recordText (now (word .entry)) first second) ⌝ }
 {
     let size = word.len() + digit_count(first) + digit_count(second) + 3;
     if fits(buf.len(), at, size) {

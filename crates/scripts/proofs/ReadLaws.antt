@@ -2,7 +2,7 @@
 use mathlib.Core.Path.{_≡_, refl, sym, ap, _∙_}
 use mathlib.Core.Bool.{Bool, true, false, cond}
 use mathlib.Core.List.{List, [], _∷_, _++_}
-use Prim.Native.Nat.{ℕ, zero, suc, _+_, _-_, _≤_, _<_}
+use Prim.Native.Nat.{ℕ, _+_, _-_, _≤_, _<_}
 use native.Mathlib.Omega.{arith}
 use lib.Dec.{ltb}
 use lib.ListN.{length, take, drop}
@@ -34,7 +34,8 @@ use Rattle.scripts.specs.Count.{taken, counted, TakenFits}
 pub key-known : (t : List ℕ) (k : ℕ) (b : Bool) → b ≡ memberOf k t → b ≡ true → kept t ≡ byKey t k
 key-known t k b eb e = rw (← eb, e)
 
-pub key-full : (t : List ℕ) (k : ℕ) (b : Bool) → b ≡ memberOf k t → b ≡ false → 256 ≤ length t → refused ScriptFull ≡ byKey t k
+pub key-full : (t : List ℕ) (k : ℕ) (b : Bool) → b ≡ memberOf k t → b ≡ false → 256 ≤ length t
+    → refused ScriptFull ≡ byKey t k
 key-full t k b eb e h = rw (← eb, e, le-ltb _ _ h)
 
 pub key-new : (t u : List ℕ) (k at : ℕ) (b : Bool) → b ≡ memberOf k t → b ≡ false → length t < 256 → at ≡ rankOf k t
@@ -42,7 +43,8 @@ pub key-new : (t u : List ℕ) (k at : ℕ) (b : Bool) → b ≡ memberOf k t �
 key-new t u k at b eb e h ea eu = rw (← eb, e, lt-ltb _ _ h, eu, ea, insert-split k t)
 
 -- ---- one line
-pub by-cue : (x : LineRead) (t : List ℕ) (l : CueLine) (k : ℕ) (c : _) → l ≡ InRange c → k ≡ keyOf c → x ≡ byKey t k → x ≡ byLine t l
+pub by-cue : (x : LineRead) (t : List ℕ) (l : CueLine) (k : ℕ) (c : _) → l ≡ InRange c → k ≡ keyOf c → x ≡ byKey t k
+    → x ≡ byLine t l
 by-cue x t l k c el ek e = rw el (rw ek at e)
 
 pub by-refusal : (t : List ℕ) (l : CueLine) (r : Refusal) → l ≡ RefusedLine r → refused r ≡ byLine t l
@@ -51,8 +53,8 @@ by-refusal t l r el = rw el
 key-ordered : (t u : List ℕ) (k : ℕ) → Ordered 1 t → kept u ≡ byKey t k → Ordered 1 u
 key-ordered t u k o e = by-tests (memberOf k t) (ltb (length t) 256) refl e
   where
-    by-tests : (a b : Bool) → memberOf k t ≡ a → kept u ≡ cond a (kept t) (cond b (kept (insertOf k t)) (refused ScriptFull))
-        → Ordered 1 u
+    by-tests : (a b : Bool) → memberOf k t ≡ a
+        → kept u ≡ cond a (kept t) (cond b (kept (insertOf k t)) (refused ScriptFull)) → Ordered 1 u
     by-tests true b m q = let p : u ≡ t = cc in rw p o
     by-tests false true m q =
         let p : u ≡ insertOf k t = cc in
@@ -65,7 +67,9 @@ line-ordered t u (RefusedLine r) o e = let z : _≡_ {A = ℕ} 0 1 = cc in absur
 
 -- ---- the next line of a text
 read-next : (s t : List ℕ) (n at end : ℕ) → at < length s → end ≡ at + upTo 10 (drop at s)
-    → readFrom n t (linesOf (drop at s)) ≡ onward n (byLine t (cueLineOf (take (end - at) (drop at s)))) (λ u. readFrom (n + 1) u (linesOf (drop (end + 1) s)))
+    → readFrom n t (linesOf (drop at s))
+    ≡ onward n (byLine t (cueLineOf (take (end - at) (drop at s))))
+    (λ u. readFrom (n + 1) u (linesOf (drop (end + 1) s)))
 unfolding readFrom
 read-next s t n at end h e =
     let d : end - at ≡ upTo 10 (drop at s) = omega arith in
@@ -86,10 +90,12 @@ unfolding readFrom
 read-end s t n at h = rw (lines-end s at h)
 
 -- what a line's answer says of the words that it left
-pub count-kept : (r : Taken) (words : List ℕ) (m : ℕ) (x : LineRead) → r ≡ Count m → taken r words ≡ x → kept (take m words) ≡ x
+pub count-kept : (r : Taken) (words : List ℕ) (m : ℕ) (x : LineRead) → r ≡ Count m → taken r words ≡ x
+    → kept (take m words) ≡ x
 count-kept r words m x e q = rw e at q
 
-pub count-refused : (r : Taken) (words : List ℕ) (why : Refusal) (x : LineRead) → r ≡ RefusedTake why → taken r words ≡ x → refused why ≡ x
+pub count-refused : (r : Taken) (words : List ℕ) (why : Refusal) (x : LineRead) → r ≡ RefusedTake why
+    → taken r words ≡ x → refused why ≡ x
 count-refused r words why x e q = rw e at q
 
 pub count-fits : (r : Taken) (m : ℕ) → r ≡ Count m → TakenFits r → m ≤ 256
@@ -109,8 +115,10 @@ pub text-accepted : (r : Counted) (words s : List ℕ) (n : ℕ) → length s �
 text-accepted r words s n h l e q = rw (not-long s h, take-all 256 words l) (rw e at q)
 
 pub text-refused : (r : Counted) (words s keys : List ℕ) (why : Refusal) (n : ℕ) (o : Outcome) → length s ≤ 65536
-    → r ≡ RefusedText why n → counted r words ≡ readFrom 1 [] (linesOf s) → o ≡ Refused why n → keys ≡ [] → (o, keys) ≡ scriptOf s
+    → r ≡ RefusedText why n → counted r words ≡ readFrom 1 [] (linesOf s) → o ≡ Refused why n → keys ≡ []
+    → (o, keys) ≡ scriptOf s
 text-refused r words s keys why n o h e q eo ek = rw (eo, ek, not-long s h) (rw e at q)
 
-pub limit-refused : (s keys : List ℕ) (o : Outcome) → 65536 < length s → o ≡ Refused TextTooLong 0 → keys ≡ [] → (o, keys) ≡ scriptOf s
+pub limit-refused : (s keys : List ℕ) (o : Outcome) → 65536 < length s → o ≡ Refused TextTooLong 0 → keys ≡ []
+    → (o, keys) ≡ scriptOf s
 limit-refused s keys o h eo ek = rw (eo, ek) (too-long s h)

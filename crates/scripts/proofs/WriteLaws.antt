@@ -1,7 +1,7 @@
 -- Laws of writing the cues of a table, a key at a time. Assumes nothing.
-use mathlib.Core.Path.{_≡_, refl, sym, ap, _∙_}
-use mathlib.Core.List.{List, [], _∷_, _++_}
-use Prim.Native.Nat.{ℕ, suc, _+_, _≤_, _<_}
+use mathlib.Core.Path.{_≡_, sym, ap, _∙_}
+use mathlib.Core.List.{List, [], _++_}
+use Prim.Native.Nat.{ℕ, _+_, _≤_, _<_, min}
 use native.Mathlib.Omega.{arith}
 use native.Mathlib.Numerals.{add-one}
 use lib.ListN.{length, getD, take, drop, length-take, length-append, drop-of-length-le}
@@ -23,23 +23,29 @@ use Rattle.scripts.specs.Script.{keysIn, scriptOf}
 use Rattle.scripts.specs.ScriptText.{textOf, normal, formatOf, reportOf}
 
 -- ---- the keys of a table
+pub keys-counted : (words : List ℕ) (n : ℕ) → length (keysIn words n) ≡ min n (min 256 (length words))
+keys-counted words n = omega (arith, length-take n (take 256 words), length-take 256 words)
+
 pub keys-at-most : (words : List ℕ) (n : ℕ) → length (keysIn words n) ≤ 256
-keys-at-most words n = omega (arith, length-take n (take 256 words), length-take 256 words)
+keys-at-most words n = omega (arith, keys-counted words n)
 
 pub key-at : (words : List ℕ) (n i : ℕ) → i < length (keysIn words n) → getD (keysIn words n) i 0 ≡ getD words i 0
 key-at words n i h =
-    let a : i < n = omega (arith, length-take n (take 256 words)) in
-    let b : i < 256 = omega (arith, keys-at-most words n) in
+    let a : i < n = omega (arith, keys-counted words n) in
+    let b : i < 256 = omega (arith, keys-counted words n) in
     getD-take n (take 256 words) i 0 a ∙ getD-take 256 words i 0 b
 
 -- ---- one cue more
 module _ (words : List ℕ) (n i : ℕ) (h : i < length (keysIn words n)) where
-  pub text-more : textOf (drop i (keysIn words n)) ≡ cueText (cueOf (getD words i 0)) ++ textOf (drop (i + 1) (keysIn words n))
+  pub text-more : textOf (drop i (keysIn words n))
+      ≡ cueText (cueOf (getD words i 0)) ++ textOf (drop (i + 1) (keysIn words n))
   unfolding textOf
   text-more = rw (drop-cons (keysIn words n) i 0 h, key-at words n i h, add-one)
 
-  pub text-more-length : length (textOf (drop i (keysIn words n))) ≡ length (cueText (cueOf (getD words i 0))) + length (textOf (drop (i + 1) (keysIn words n)))
-  text-more-length = ap length text-more ∙ length-append (cueText (cueOf (getD words i 0))) (textOf (drop (i + 1) (keysIn words n)))
+  pub text-more-length : length (textOf (drop i (keysIn words n)))
+      ≡ length (cueText (cueOf (getD words i 0))) + length (textOf (drop (i + 1) (keysIn words n)))
+  text-more-length =
+      ap length text-more ∙ length-append (cueText (cueOf (getD words i 0))) (textOf (drop (i + 1) (keysIn words n)))
 
   pub text-more-stored : (buf mid : List ℕ) (at end : ℕ) → end ≡ at + length (cueText (cueOf (getD words i 0)))
       → mid ≡ sets buf at (cueText (cueOf (getD words i 0)))
@@ -64,12 +70,13 @@ module _ (s t buf : List ℕ) (o : Outcome) (e : (o, t) ≡ scriptOf s) where
   unfolding formatOf
   format-refused r n q = rw (outcome, q)
 
-  pub format-written : (w : Written) (f : Formatted) (after : List ℕ) → o ≡ Accepted → (w, after) ≡ writtenAt buf 0 (textOf t)
-      → f ≡ normal w → (f, after) ≡ formatOf s buf
+  pub format-written : (w : Written) (f : Formatted) (after : List ℕ) → o ≡ Accepted
+      → (w, after) ≡ writtenAt buf 0 (textOf t) → f ≡ normal w → (f, after) ≡ formatOf s buf
   unfolding formatOf
   format-written w f after q ew ef = rw (outcome, keys, q, ← ew, ef)
 
-  pub report-refused : (r : Refusal) (n : ℕ) → o ≡ Refused r n → recordText (bytes "refused") (refusalNumber r) n ≡ reportOf s
+  pub report-refused : (r : Refusal) (n : ℕ) → o ≡ Refused r n
+      → recordText (bytes "refused") (refusalNumber r) n ≡ reportOf s
   unfolding reportOf
   report-refused r n q = rw (outcome, q)
 

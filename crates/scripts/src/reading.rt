@@ -75,7 +75,8 @@ fn take_key(keys: &mut [u64], n: usize, key: u64) -> Taken
 // Puts the cue of a line into the table.
 fn take_line(keys: &mut [u64], n: usize, line: &[u8]) -> Taken
     requires { ⌜ (n ≤ 256) × (length (now keys) ≡ 256) × Ordered 1 (take n (now keys)) ⌝ }
-    ensures { λ r. ⌜ (taken r (now (keys .exit)) ≡ byLine (take n (now (keys .entry))) (cueLineOf (now (line .entry)))) × TakenFits r ⌝ }
+    ensures { λ r. ⌜ (taken r (now (keys .exit)) ≡ byLine (take n (now (keys .entry))) (cueLineOf (now (line .entry))))
+        × TakenFits r ⌝ }
 {
     match read_cue(line) {
         CueLine::InRange(cue) => take_key(keys, n, cue_key(cue)),

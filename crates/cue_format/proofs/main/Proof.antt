@@ -6,11 +6,6 @@ use Rattle.buffers.proofs.Answers.{within}
 use borrow.Author.Needs.{needs}
 use Rattle.cue_format.proofs.main.Statement.{statement}
 use Rattle.cue_format.proofs.main.Tie as tie
-use Rattle.cue_format.proofs.main.Reads as reads
-use Rattle.cue_format.proofs.main.Lts as lts
-use Rattle.io.proofs.read_full.Reads as read-full-reads
-use Rattle.io.proofs.write_all.Reads as write-all-reads
-use Rattle.scripts.proofs.write_report.Reads as write-report-reads
 
 slice-aggregate-read-full : tie.Need-slice-aggregate-read-full
 slice-aggregate-read-full c = search needs

@@ -6,11 +6,6 @@ use Rattle.buffers.proofs.Answers.{within}
 use borrow.Author.Needs.{needs}
 use Rattle.cue_stamp.proofs.main.Statement.{statement}
 use Rattle.cue_stamp.proofs.main.Tie as tie
-use Rattle.cue_stamp.proofs.main.Reads as reads
-use Rattle.cue_stamp.proofs.main.Lts as lts
-use Rattle.cue_stamp.proofs.stamp_input.Reads as stamp-input-reads
-use Rattle.io.proofs.write_all.Reads as write-all-reads
-use Rattle.records.proofs.write_field.Reads as write-field-reads
 
 stamp-input-requires : tie.Need-stamp-input-requires
 stamp-input-requires c κs = search needs

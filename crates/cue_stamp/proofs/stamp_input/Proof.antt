@@ -2,11 +2,6 @@
 use borrow.Author.Needs.{needs}
 use Rattle.cue_stamp.proofs.stamp_input.Statement.{statement}
 use Rattle.cue_stamp.proofs.stamp_input.Tie as tie
-use Rattle.cue_stamp.proofs.stamp_input.Reads as reads
-use Rattle.cue_stamp.proofs.stamp_input.Lts as lts
-use Rattle.checksum.proofs.checksum_from.Reads as checksum-from-reads
-use Rattle.io.proofs.large_buffer.Reads as large-buffer-reads
-use Rattle.io.proofs.read_full.Reads as read-full-reads
 
 abbrev Inv-loop : tie.InvT-loop
 Inv-loop piece₀ sum₀ turns₀ piece sum turns = Unit {0}

@@ -1,18 +1,12 @@
 -- `exports::lizkorpe_format` meets its contract. Assumes nothing.
 use mathlib.Core.Path.{_≡_, sym, ap, _∙_}
-use mathlib.Core.List.{List}
 use Prim.Native.Nat.{ℕ, _+_}
 use native.Mathlib.Omega.{arith}
-use Rattle.buffers.specs.declared.Written.{Written}
 use Rattle.exports.specs.Report.{answerNumber}
 use Rattle.exports.proofs.Laws.{answered}
 use borrow.Author.Needs.{needs}
 use Rattle.exports.proofs.lizkorpe_format.Statement.{statement}
 use Rattle.exports.proofs.lizkorpe_format.Tie as tie
-use Rattle.exports.proofs.lizkorpe_format.Reads as reads
-use Rattle.exports.proofs.lizkorpe_format.Lts as lts
-use Rattle.refusals.proofs.refusal_number.Reads as refusal-number-reads
-use Rattle.scripts.proofs.write_report.Reads as write-report-reads
 
 write-report-requires : tie.Need-write-report-requires
 write-report-requires c κs = search needs

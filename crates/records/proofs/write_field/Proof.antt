@@ -9,11 +9,14 @@ use Rattle.records.proofs.Laws.{field-length}
 use borrow.Author.Needs.{needs}
 use Rattle.records.proofs.write_field.Statement.{statement}
 use Rattle.records.proofs.write_field.Tie as tie
-use Rattle.records.proofs.write_field.Reads as reads
-use Rattle.records.proofs.write_field.Lts as lts
-use Rattle.buffers.proofs.fits.Reads as fits-reads
-use Rattle.numbers.proofs.digit_count.Reads as digit-count-reads
-use Rattle.records.proofs.put_field.Reads as put-field-reads
+
+-- the bytes counted beforehand are those of the field
+counted : (o : tie.After-fits2) →
+    let a = o .before .before .before .args in
+    o .before .digit-count .result + 1 ≡ length (fieldText (a .n) (a .behind))
+counted o =
+    let a = o .before .before .before .args in
+    omega (arith, field-length (a .n) (a .behind))
 
 digit-count-requires : tie.Need-digit-count-requires
 digit-count-requires c κs = search needs
@@ -27,10 +30,7 @@ fits-requires c κs = search needs
 put-field-requires : tie.Need-put-field-requires
 put-field-requires c κs =
     let o = c .before .before in
-    let a = o .before .before .before .args in
-    let n = o .before .digit-count in
-    let l : n .result + 1 ≡ length (fieldText (a .n) (a .behind)) = omega (arith, field-length (a .n) (a .behind)) in
-    room _ _ _ _ _ (o .fits2 .ensures) (c .before .if1 .taken) l
+    room _ _ _ _ _ (o .fits2 .ensures) (c .before .if1 .taken) (counted o)
 
 same-length : tie.Need-same-length
 same-length c = search needs
@@ -40,19 +40,17 @@ returns c =
     let r = c .before .before in
     let o = r .before .before .before in
     let a = o .before .before .before .args in
-    let n = o .before .digit-count in
-    let l : n .result + 1 ≡ length (fieldText (a .n) (a .behind)) = omega (arith, field-length (a .n) (a .behind)) in
-    let h = room _ _ _ _ _ (o .fits2 .ensures) (r .before .before .if1 .taken) l in
+    let h = room _ _ _ _ _ (o .fits2 .ensures) (r .before .before .if1 .taken) (counted o) in
     let p = r .put-field in
-    written (a .buf .now) (p .last .0) (fieldText (a .n) (a .behind)) (a .at) (p .result) h (p .ensures .0) (p .ensures .1)
+    let text = fieldText (a .n) (a .behind) in
+    written (a .buf .now) (p .last .0) text (a .at) (p .result) h (p .ensures .0) (p .ensures .1)
 
 returns-2 : tie.Need-returns-2
 returns-2 c =
     let o = c .before in
     let a = o .before .before .before .args in
-    let n = o .before .digit-count in
-    let l : n .result + 1 ≡ length (fieldText (a .n) (a .behind)) = omega (arith, field-length (a .n) (a .behind)) in
-    too-short (a .buf .now) (fieldText (a .n) (a .behind)) (a .at) (no-room _ _ _ _ _ (o .fits2 .ensures) (c .if1 .left) l)
+    too-short (a .buf .now) (fieldText (a .n) (a .behind)) (a .at)
+    (no-room _ _ _ _ _ (o .fits2 .ensures) (c .if1 .left) (counted o))
 
 pub write-field-spec : {M : Type 1} → statement M
 write-field-spec =

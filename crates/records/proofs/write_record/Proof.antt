@@ -9,11 +9,16 @@ use Rattle.records.proofs.Laws.{field-length, record-length}
 use borrow.Author.Needs.{needs}
 use Rattle.records.proofs.write_record.Statement.{statement}
 use Rattle.records.proofs.write_record.Tie as tie
-use Rattle.records.proofs.write_record.Reads as reads
-use Rattle.records.proofs.write_record.Lts as lts
-use Rattle.buffers.proofs.fits.Reads as fits-reads
-use Rattle.numbers.proofs.digit_count.Reads as digit-count-reads
-use Rattle.records.proofs.put_record.Reads as put-record-reads
+
+-- the bytes counted beforehand are those of the record
+counted : (o : tie.After-fits2) →
+    let a = o .before .before .before .before .before .args in
+    length (a .word .now) + o .before .before .digit-count .result + o .before .digit-count2 .result + 3
+    ≡ length (recordText (a .word .now) (a .first) (a .second))
+counted o =
+    let a = o .before .before .before .before .before .args in
+    let n = record-length (a .word .now) (a .first) (a .second) in
+    omega (arith, n, field-length (a .first) 44, field-length (a .second) 10)
 
 digit-count-requires : tie.Need-digit-count-requires
 digit-count-requires c κs = search needs
@@ -36,13 +41,7 @@ fits-requires c κs = search needs
 put-record-requires : tie.Need-put-record-requires
 put-record-requires c κs =
     let o = c .before .before in
-    let a = o .before .before .before .before .before .args in
-    let x = o .before .before .digit-count in
-    let y = o .before .digit-count2 in
-    let w = a .word .now in
-    let l : length w + x .result + y .result + 3 ≡ length (recordText w (a .first) (a .second))
-    = omega (arith, record-length w (a .first) (a .second), field-length (a .first) 44, field-length (a .second) 10) in
-    room _ _ _ _ _ (o .fits2 .ensures) (c .before .if1 .taken) l
+    room _ _ _ _ _ (o .fits2 .ensures) (c .before .if1 .taken) (counted o)
 
 same-length : tie.Need-same-length
 same-length c = search needs
@@ -52,25 +51,17 @@ returns c =
     let r = c .before .before in
     let o = r .before .before .before in
     let a = o .before .before .before .before .before .args in
-    let x = o .before .before .digit-count in
-    let y = o .before .digit-count2 in
-    let w = a .word .now in
-    let l : length w + x .result + y .result + 3 ≡ length (recordText w (a .first) (a .second))
-    = omega (arith, record-length w (a .first) (a .second), field-length (a .first) 44, field-length (a .second) 10) in
-    let h = room _ _ _ _ _ (o .fits2 .ensures) (r .before .before .if1 .taken) l in
+    let h = room _ _ _ _ _ (o .fits2 .ensures) (r .before .before .if1 .taken) (counted o) in
     let p = r .put-record in
-    written (a .buf .now) (p .last .0) (recordText w (a .first) (a .second)) (a .at) (p .result) h (p .ensures .0) (p .ensures .1)
+    let text = recordText (a .word .now) (a .first) (a .second) in
+    written (a .buf .now) (p .last .0) text (a .at) (p .result) h (p .ensures .0) (p .ensures .1)
 
 returns-2 : tie.Need-returns-2
 returns-2 c =
     let o = c .before in
     let a = o .before .before .before .before .before .args in
-    let x = o .before .before .digit-count in
-    let y = o .before .digit-count2 in
-    let w = a .word .now in
-    let l : length w + x .result + y .result + 3 ≡ length (recordText w (a .first) (a .second))
-    = omega (arith, record-length w (a .first) (a .second), field-length (a .first) 44, field-length (a .second) 10) in
-    too-short (a .buf .now) (recordText w (a .first) (a .second)) (a .at) (no-room _ _ _ _ _ (o .fits2 .ensures) (c .if1 .left) l)
+    too-short (a .buf .now) (recordText (a .word .now) (a .first) (a .second)) (a .at)
+    (no-room _ _ _ _ _ (o .fits2 .ensures) (c .if1 .left) (counted o))
 
 pub write-record-spec : {M : Type 1} → statement M
 write-record-spec =

@@ -60,7 +60,7 @@ add-base c =
     let g = getD-take (s .args .n) (s .args .keys .now) (v .base + half) 0 h in
     let e : c .below .result ≡ cond (ltb (getD t (v .base + half) 0) (s .args .key)) 1 0 = rw g (c .below .ensures .0) in
     let r = rank-half (s .args .key) t (v .base) (v .size) half (c .below .result) (s .pre .1) (omega arith) (omega arith) (omega arith)
-        (v .inv .2) (v .inv .3) e in
+    (v .inv .2) (v .inv .3) e in
     omega (arith, r)
 
 sub-size : tie.Need-sub-size Inv-loop μ-loop
@@ -81,7 +81,7 @@ loop-again c =
     let g = getD-take (s .args .n) (s .args .keys .now) (v .base + half) 0 h in
     let e : c .below .result ≡ cond (ltb (getD t (v .base + half) 0) (s .args .key)) 1 0 = rw g (c .below .ensures .0) in
     let r = rank-half (s .args .key) t (v .base) (v .size) half (c .below .result) (s .pre .1) (omega arith) (omega arith) (omega arith)
-        (v .inv .2) (v .inv .3) e in
+    (v .inv .2) (v .inv .3) e in
     (omega arith, omega (arith, r .2), r .0, r .1)
 
 mul-below-2 : tie.Need-mul-below-2 Inv-loop μ-loop
@@ -105,8 +105,7 @@ returns-2 c =
     let l : length t ≡ s .args .n = length-take-le (s .args .n) (s .args .keys .now) (s .pre .0) in
     let h : v .base < s .args .n = omega arith in
     let g = getD-take (s .args .n) (s .args .keys .now) (v .base) 0 h in
-    let e : c .below2 .result ≡ cond (ltb (getD t (v .base) 0) (s .args .key)) 1 0 = rw g (c .below2 .ensures .0) in
-    (
+    let e : c .below2 .result ≡ cond (ltb (getD t (v .base) 0) (s .args .key)) 1 0 = rw g (c .below2 .ensures .0) in (
       rank-last (s .args .key) t (v .base) (c .below2 .result) (s .pre .1) (omega arith) (v .inv .2) (omega arith) e,
       omega (arith, c .below2 .ensures .1),
     )

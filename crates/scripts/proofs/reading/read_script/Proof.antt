@@ -1,5 +1,4 @@
 -- `scripts::reading::read_script` meets its contract. Assumes nothing.
-use mathlib.Core.Path.{_≡_}
 use Prim.Native.Nat.{_≤_, _<_}
 use native.Mathlib.Omega.{arith}
 use lib.ListN.{length}
@@ -7,10 +6,6 @@ use Rattle.scripts.proofs.ReadLaws.{text-accepted, text-refused, limit-
 use borrow.Author.Needs.{needs}
 use Rattle.scripts.proofs.reading.read_script.Statement.{statement}
 use Rattle.scripts.proofs.reading.read_script.Tie as tie
-use Rattle.scripts.proofs.reading.read_script.Reads as reads
-use Rattle.scripts.proofs.reading.read_script.Lts as lts
-use Rattle.scripts.proofs.reading.refused.Reads as refused-reads
-use Rattle.scripts.proofs.reading.take_lines.Reads as take-lines-reads
 
 refused-requires : tie.Need-refused-requires
 refused-requires c κs = search needs
@@ -40,17 +35,19 @@ returns-2 c =
     let n = c .before in
     let t = n .before .before .before in
     let a = t .before .before .before .before .args in
+    let k = t .take-lines in
     let h : length (a .text .now) ≤ 65536 = omega arith in
-    let l : length (t .take-lines .last .0) ≤ 256 = omega (arith, t .take-lines .kept .0) in
-    text-accepted (t .take-lines .result) (t .take-lines .last .0) (a .text .now) (n .n .given .0 .0) h l (n .n .given .1) (t .take-lines .ensures .0)
+    let l : length (k .last .0) ≤ 256 = omega (arith, k .kept .0) in
+    text-accepted (k .result) (k .last .0) (a .text .now) (n .n .given .0 .0) h l (n .n .given .1) (k .ensures .0)
 
 returns-3 : tie.Need-returns-3
 returns-3 c =
     let r = c .before .before in
     let t = r .before .before .before in
     let a = t .before .before .before .before .args in
+    let k = t .take-lines in
     let h : length (a .text .now) ≤ 65536 = omega arith in
-    text-refused (t .take-lines .result) (t .take-lines .last .0) (a .text .now) _ _ _ _ h (r .refusal .given .1) (t .take-lines .ensures .0)
+    text-refused (k .result) (k .last .0) (a .text .now) _ _ _ _ h (r .refusal .given .1) (k .ensures .0)
     (c .refused2 .ensures .0) (c .refused2 .ensures .1)
 
 pub read-script-spec : {M : Type 1} → statement M

@@ -1,6 +1,5 @@
 -- `scripts::reading::take_key` meets its contract. Assumes nothing.
 use mathlib.Core.Path.{_≡_}
-use Prim.Native.Nat.{_≤_, _<_}
 use native.Mathlib.Omega.{arith}
 use lib.ListN.{length, take}
 use lib.Seq.{length-take-le}
@@ -9,11 +8,6 @@ use Rattle.scripts.proofs.ReadLaws.{key-known, key-full, key-new}
 use borrow.Author.Needs.{needs}
 use Rattle.scripts.proofs.reading.take_key.Statement.{statement}
 use Rattle.scripts.proofs.reading.take_key.Tie as tie
-use Rattle.scripts.proofs.reading.take_key.Reads as reads
-use Rattle.scripts.proofs.reading.take_key.Lts as lts
-use Rattle.tables.proofs.insert_at.Reads as insert-at-reads
-use Rattle.tables.proofs.rank.Reads as rank-reads
-use Rattle.tables.proofs.stands_at.Reads as stands-at-reads
 
 rank-requires : tie.Need-rank-requires
 rank-requires c κs =
@@ -58,8 +52,8 @@ returns-3 c =
     let o = e .before in
     let a = o .before .before .before .before .before .args in
     let l : length (take (a .n) (a .keys .now)) ≡ a .n = length-take-le (a .n) (a .keys .now) (omega arith) in (
-      key-new (take (a .n) (a .keys .now)) _ (a .key) (o .before .before .rank .result) _ (o .stands-at .ensures) (e .if1 .left) (omega arith)
-          (o .before .before .rank .ensures .0) (i .insert-at .ensures),
+      key-new (take (a .n) (a .keys .now)) _ (a .key) (o .before .before .rank .result) _ (o .stands-at .ensures)
+          (e .if1 .left) (omega arith) (o .before .before .rank .ensures .0) (i .insert-at .ensures),
       omega arith,
     )
 

@@ -4,11 +4,6 @@ use Rattle.scripts.proofs.ReadLaws.{by-cue, by-refusal}
 use borrow.Author.Needs.{needs}
 use Rattle.scripts.proofs.reading.take_line.Statement.{statement}
 use Rattle.scripts.proofs.reading.take_line.Tie as tie
-use Rattle.scripts.proofs.reading.take_line.Reads as reads
-use Rattle.scripts.proofs.reading.take_line.Lts as lts
-use Rattle.cues.proofs.cue_key.Reads as cue-key-reads
-use Rattle.cues.proofs.read_cue.Reads as read-cue-reads
-use Rattle.scripts.proofs.reading.take_key.Reads as take-key-reads
 
 read-cue-requires : tie.Need-read-cue-requires
 read-cue-requires c κs = search needs
@@ -33,7 +28,8 @@ returns c =
     let r = c .before .before in
     let k = r .before in
     let q = k .before .before .before in (
-      by-cue _ _ _ _ _ (sym (q .before .before .read-cue .ensures) ∙ q .cue .given .1) (k .cue-key .ensures) (r .take-key .ensures .0),
+      by-cue _ _ _ _ _ (sym (q .before .before .read-cue .ensures) ∙ q .cue .given .1) (k .cue-key .ensures)
+          (r .take-key .ensures .0),
       r .take-key .ensures .1,
     )
 

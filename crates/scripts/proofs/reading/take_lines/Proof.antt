@@ -1,6 +1,6 @@
--- `scripts::reading::take_lines` meets its contract. The invariant: reading on from here gives what reading the whole text gives.
--- Assumes nothing.
-use mathlib.Core.Path.{_≡_, refl, sym, _∙_}
+-- `scripts::reading::take_lines` meets its contract. The invariant: reading on from here gives what reading the whole
+-- text gives. Assumes nothing.
+use mathlib.Core.Path.{_≡_, _∙_}
 use mathlib.Core.List.{[]}
 use Prim.Native.Nat.{_+_, _-_, _≤_, _<_}
 use native.Mathlib.Omega.{arith}
@@ -10,13 +10,17 @@ use Rattle.lines.specs.Lines.{linesOf}
 use Rattle.cues.specs.CueLine.{cueLineOf}
 use Rattle.tables.specs.Table.{Ordered}
 use Rattle.scripts.specs.Script.{readFrom}
-use Rattle.scripts.proofs.ReadLaws.{read-on, read-refused, read-end, line-ordered, count-kept, count-refused, count-fits}
+use Rattle.scripts.proofs.ReadLaws.{
+  read-on,
+  read-refused,
+  read-end,
+  line-ordered,
+  count-kept,
+  count-refused,
+  count-fits,
+}
 use Rattle.scripts.proofs.reading.take_lines.Statement.{statement}
 use Rattle.scripts.proofs.reading.take_lines.Tie as tie
-use Rattle.scripts.proofs.reading.take_lines.Reads as reads
-use Rattle.scripts.proofs.reading.take_lines.Lts as lts
-use Rattle.lines.proofs.find_byte.Reads as find-byte-reads
-use Rattle.scripts.proofs.reading.take_line.Reads as take-line-reads
 
 abbrev Inv-loop : tie.InvT-loop
 Inv-loop keys₀ text n₀ at₀ number₀ keys n at number =
@@ -62,7 +66,8 @@ returns c =
     let h : l .at < length (a .text .now) = omega arith in
     let f = t .before .before .before .find-byte in
     let q = count-refused _ (t .take-line .last .0) _ _ (c .before .refusal .given .1) (t .take-line .ensures .0) in (
-      read-refused (a .text .now) (take (l .n) (l .keys)) (l .number) (l .at) (f .result) _ h (f .ensures .0) q ∙ l .inv .5,
+      read-refused (a .text .now) (take (l .n) (l .keys)) (l .number) (l .at) (f .result) _ h (f .ensures .0) q
+          ∙ l .inv .5,
       tt,
     )
 
@@ -85,15 +90,17 @@ loop-again c =
     let h : l .at < length (a .text .now) = omega arith in
     let f = t .before .before .before .find-byte in
     let r = t .take-line in
+    let t₀ = take (l .n) (l .keys) in
+    let t₁ = take (m .0 .0) (r .last .0) in
+    let line = take (f .result - l .at) (drop (l .at) (a .text .now)) in
     let k = count-kept (r .result) (r .last .0) (m .0 .0) _ (m .1) (r .ensures .0) in
     let b : f .result ≤ length (a .text .now) = omega arith in (
       count-fits (r .result) (m .0 .0) (m .1) (r .ensures .1),
       r .kept .0 ∙ l .inv .1,
-      line-ordered (take (l .n) (l .keys)) (take (m .0 .0) (r .last .0)) (cueLineOf (take (f .result - l .at) (drop (l .at) (a .text .now)))) (l .inv .2) k,
+      line-ordered t₀ t₁ (cueLineOf line) (l .inv .2) k,
       omega arith,
       omega arith,
-      read-on (a .text .now) (take (l .n) (l .keys)) (take (m .0 .0) (r .last .0)) (l .number) (l .at) (f .result) h (f .ensures .0) k
-          ∙ l .inv .5,
+      read-on (a .text .now) t₀ t₁ (l .number) (l .at) (f .result) h (f .ensures .0) k ∙ l .inv .5,
     )
 
 same-length-2 : tie.Need-same-length-2 Inv-loop μ-loop

@@ -1,7 +1,7 @@
--- `scripts::writing::cues_length` meets its contract. The invariant: the sum so far and what is left are the whole length.
--- Assumes nothing.
-use mathlib.Core.Path.{_≡_, refl, sym, ap, _∙_}
-use Prim.Native.Nat.{ℕ, _+_, _*_, _-_, _≤_, _<_}
+-- `scripts::writing::cues_length` meets its contract. The invariant: the sum so far and what is left are the whole
+-- length. Assumes nothing.
+use mathlib.Core.Path.{_≡_, sym, ap}
+use Prim.Native.Nat.{_+_, _*_, _-_, _≤_, _<_}
 use native.Mathlib.Omega.{arith}
 use lib.ListN.{length, getD, drop}
 use borrow.Author.Needs.{needs}
@@ -13,11 +13,6 @@ use Rattle.scripts.specs.ScriptText.{textOf}
 use Rattle.scripts.proofs.WriteLaws.{text-more-length, text-end}
 use Rattle.scripts.proofs.writing.cues_length.Statement.{statement}
 use Rattle.scripts.proofs.writing.cues_length.Tie as tie
-use Rattle.scripts.proofs.writing.cues_length.Reads as reads
-use Rattle.scripts.proofs.writing.cues_length.Lts as lts
-use Rattle.cues.proofs.cue_length.Reads as cue-length-reads
-use Rattle.cues.proofs.key_cue.Reads as key-cue-reads
-use Rattle.scripts.proofs.writing.key_count.Reads as key-count-reads
 
 abbrev Inv-loop : tie.InvT-loop
 Inv-loop keys n count sum₀ i₀ sum i =
@@ -63,7 +58,8 @@ loop-again c =
     let a = o .before .before .before .args in
     let l = o .loop in
     let h : l .i < length (keysIn (a .keys .now) (a .n)) = omega arith in
-    let e : length (cueText (k .key-cue .result)) ≡ length (cueText (cueOf (getD (a .keys .now) (l .i) 0))) = ap (λ (x : Cue). length (cueText x)) (k .key-cue .ensures) in
+    let e : length (cueText (k .key-cue .result)) ≡ length (cueText (cueOf (getD (a .keys .now) (l .i) 0)))
+    = ap (λ (x : Cue). length (cueText x)) (k .key-cue .ensures) in
     let t = text-more-length (a .keys .now) (a .n) (l .i) h in
     let r = c .cue-length .ensures in
     (omega arith, l .inv .1, l .inv .2, l .inv .3, omega (arith, r .1), omega (arith, r .0, l .inv .5))

@@ -1,14 +1,23 @@
 -- `scripts::writing::format_script` meets its contract. Assumes nothing.
-use mathlib.Core.Path.{sym, ap}
-use Rattle.scripts.specs.ScriptText.{normal}
+use mathlib.Core.Path.{_≡_, sym, ap}
+use Rattle.scripts.specs.declared.writing.Formatted.{Formatted}
+use Rattle.scripts.specs.ScriptText.{normal, formatOf}
 use Rattle.scripts.proofs.WriteLaws.{format-refused, format-written}
 use borrow.Author.Needs.{needs}
 use Rattle.scripts.proofs.writing.format_script.Statement.{statement}
 use Rattle.scripts.proofs.writing.format_script.Tie as tie
-use Rattle.scripts.proofs.writing.format_script.Reads as reads
-use Rattle.scripts.proofs.writing.format_script.Lts as lts
-use Rattle.scripts.proofs.reading.read_script.Reads as read-script-reads
-use Rattle.scripts.proofs.writing.write_script.Reads as write-script-reads
+
+-- the writer's answer, told as the formatter's
+as-written : (w : tie.After-write-script) (f : Formatted) → f ≡ normal (w .write-script .result) →
+    let a = w .before .before .before .before .before .before .before .before .args in
+    (f, w .write-script .last .0) ≡ formatOf (a .text .now) (a .buf .now)
+as-written w f e =
+    let k = w .before .before .before in
+    let r = k .before .before .read-script in
+    let a = k .before .before .before .before .before .args in
+    let o = w .write-script in
+    format-written (a .text .now) _ (a .buf .now) _ (r .ensures) (o .result) f (o .last .0) (k .enum-told .given .1)
+    (o .ensures) e
 
 read-script-requires : tie.Need-read-script-requires
 read-script-requires c κs = search needs
@@ -41,12 +50,7 @@ same-length c = search needs
 returns-2 : tie.Need-returns-2
 returns-2 c =
     let e = c .before in
-    let w = e .before .before .before .before in
-    let k = w .before .before .before in
-    let r = k .before .before .read-script in
-    let a = k .before .before .before .before .before .args in
-    format-written (a .text .now) _ (a .buf .now) _ (r .ensures) (w .write-script .result) _ (w .write-script .last .0) (k .enum-told .given .1)
-    (w .write-script .ensures) (sym (ap normal (e .end .given .1)))
+    as-written (e .before .before .before .before) _ (sym (ap normal (e .end .given .1)))
 
 same-length-2 : tie.Need-same-length-2
 same-length-2 c = search needs
@@ -54,12 +58,7 @@ same-length-2 c = search needs
 returns-3 : tie.Need-returns-3
 returns-3 c =
     let e = c .before in
-    let w = e .before .before .before .before in
-    let k = w .before .before .before in
-    let r = k .before .before .read-script in
-    let a = k .before .before .before .before .before .args in
-    format-written (a .text .now) _ (a .buf .now) _ (r .ensures) (w .write-script .result) _ (w .write-script .last .0) (k .enum-told .given .1)
-    (w .write-script .ensures) (sym (ap normal (e .refusal .given .1)))
+    as-written (e .before .before .before .before) _ (sym (ap normal (e .refusal .given .1)))
 
 pub format-script-spec : {M : Type 1} → statement M
 format-script-spec =

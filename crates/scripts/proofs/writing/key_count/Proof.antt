@@ -1,30 +1,29 @@
 -- `scripts::writing::key_count` meets its contract. Assumes nothing.
+use mathlib.Core.Path.{_≡_}
+use Prim.Native.Nat.{min}
 use native.Mathlib.Omega.{arith}
-use lib.ListN.{take, length-take}
+use lib.ListN.{length}
+use Rattle.scripts.specs.Script.{keysIn}
+use Rattle.scripts.proofs.WriteLaws.{keys-counted}
 use Rattle.scripts.proofs.writing.key_count.Statement.{statement}
 use Rattle.scripts.proofs.writing.key_count.Tie as tie
-use Rattle.scripts.proofs.writing.key_count.Reads as reads
-use Rattle.scripts.proofs.writing.key_count.Lts as lts
+
+counted : (s : tie.Start) →
+    let a = s .args in
+    length (keysIn (a .keys .now) (a .n)) ≡ min (a .n) (min 256 (length (a .keys .now)))
+counted s = keys-counted (s .args .keys .now) (s .args .n)
 
 returns : tie.Need-returns
-returns c =
-    let a = c .before .before .args in
-    omega (arith, length-take (a .n) (take 256 (a .keys .now)), length-take 256 (a .keys .now))
+returns c = omega (arith, counted (c .before .before))
 
 returns-2 : tie.Need-returns-2
-returns-2 c =
-    let a = c .before .before .args in
-    omega (arith, length-take (a .n) (take 256 (a .keys .now)), length-take 256 (a .keys .now))
+returns-2 c = omega (arith, counted (c .before .before))
 
 returns-3 : tie.Need-returns-3
-returns-3 c =
-    let a = c .before .before .args in
-    omega (arith, length-take (a .n) (take 256 (a .keys .now)), length-take 256 (a .keys .now))
+returns-3 c = omega (arith, counted (c .before .before))
 
 returns-4 : tie.Need-returns-4
-returns-4 c =
-    let a = c .before .before .args in
-    omega (arith, length-take (a .n) (take 256 (a .keys .now)), length-take 256 (a .keys .now))
+returns-4 c = omega (arith, counted (c .before .before))
 
 pub key-count-spec : {M : Type 1} → statement M
 key-count-spec = tie.close (tie.spec returns returns-2 returns-3 returns-4)

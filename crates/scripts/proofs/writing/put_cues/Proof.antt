@@ -1,12 +1,12 @@
--- `scripts::writing::put_cues` meets its contract. The invariant: writing what is left from here on gives the whole. Assumes nothing.
+-- `scripts::writing::put_cues` meets its contract. The invariant: writing what is left from here on gives the whole.
+-- Assumes nothing.
 use mathlib.Core.Path.{_≡_, refl, sym, ap, _∙_}
-use Prim.Native.Nat.{ℕ, _+_, _-_, _≤_, _<_}
+use Prim.Native.Nat.{_+_, _-_, _≤_, _<_}
 use native.Mathlib.Omega.{arith}
-use lib.ListN.{length, getD, drop}
+use lib.ListN.{length, drop}
 use lib.Seq.{sets}
 use borrow.Author.Needs.{needs}
 use Rattle.buffers.proofs.Answers.{put-there, not-refused}
-use Rattle.cues.specs.Cue.{cueOf}
 use Rattle.cues.specs.CueText.{cueText}
 use Rattle.cues.specs.declared.Cue.{Cue}
 use Rattle.scripts.specs.Script.{keysIn}
@@ -14,11 +14,6 @@ use Rattle.scripts.specs.ScriptText.{textOf}
 use Rattle.scripts.proofs.WriteLaws.{text-more-length, text-more-stored, text-end}
 use Rattle.scripts.proofs.writing.put_cues.Statement.{statement}
 use Rattle.scripts.proofs.writing.put_cues.Tie as tie
-use Rattle.scripts.proofs.writing.put_cues.Reads as reads
-use Rattle.scripts.proofs.writing.put_cues.Lts as lts
-use Rattle.cues.proofs.key_cue.Reads as key-cue-reads
-use Rattle.cues.proofs.write_cue.Reads as write-cue-reads
-use Rattle.scripts.proofs.writing.key_count.Reads as key-count-reads
 
 abbrev Inv-loop : tie.InvT-loop
 Inv-loop buf₀ at keys n count end₀ i₀ buf end i =
@@ -28,6 +23,24 @@ Inv-loop buf₀ at keys n count end₀ i₀ buf end i =
 
 abbrev μ-loop : tie.MeasureT-loop
 μ-loop buf₀ at keys n count end₀ i₀ buf end i = count - i
+
+-- what is left starts with the cue at hand
+cue-next : (w : tie.After-write-cue Inv-loop μ-loop) →
+    let o = w .before .before .before .before .before in
+    let a = o .before .before .before .before .args in
+    o .loop .i < length (keysIn (a .keys .now) (a .n))
+cue-next w = omega arith
+
+-- so there is room for it
+cue-fits : (w : tie.After-write-cue Inv-loop μ-loop) →
+    let l = w .before .before .before .before .before .loop in
+    l .end + length (cueText (w .before .key-cue .result)) ≤ length (l .buf)
+cue-fits w =
+    let o = w .before .before .before .before .before in
+    let a = o .before .before .before .before .args in
+    let l = o .loop in
+    let t = text-more-length (a .keys .now) (a .n) (l .i) (cue-next w) in
+    omega (arith, t, ap (λ (x : Cue). length (cueText x)) (w .before .key-cue .ensures), l .inv .4)
 
 key-count-requires : tie.Need-key-count-requires Inv-loop μ-loop
 key-count-requires c κs = search needs
@@ -62,13 +75,10 @@ returns : tie.Need-returns Inv-loop μ-loop
 returns c =
     let w = c .before .before .before .before in
     let o = w .before .before .before .before .before in
-    let a = o .before .before .before .before .args in
     let l = o .loop in
-    let h : l .i < length (keysIn (a .keys .now) (a .n)) = omega arith in
-    let q = ap cueText (w .before .key-cue .ensures) in
-    let t = text-more-length (a .keys .now) (a .n) (l .i) h in
-    let room : l .end + length (cueText (w .before .key-cue .result)) ≤ length (l .buf) = omega (arith, ap length q, l .inv .4) in
-    absurd (not-refused (l .buf) (w .write-cue .last .0) _ (w .write-cue .result) (l .end) _ room (w .write-cue .ensures) (c .enum-told .given .1))
+    let x = w .write-cue in
+    absurd
+    (not-refused (l .buf) (x .last .0) _ (x .result) (l .end) _ (cue-fits w) (x .ensures) (c .enum-told .given .1))
 
 add-i : tie.Need-add-i Inv-loop μ-loop
 add-i c = search needs
@@ -83,17 +93,20 @@ loop-again c =
     let o = w .before .before .before .before .before in
     let a = o .before .before .before .before .args in
     let l = o .loop in
-    let h : l .i < length (keysIn (a .keys .now) (a .n)) = omega arith in
-    let q = ap cueText (w .before .key-cue .ensures) in
+    let x = w .write-cue in
+    let text = cueText (w .before .key-cue .result) in
+    let h = cue-next w in
     let t = text-more-length (a .keys .now) (a .n) (l .i) h in
-    let room : l .end + length (cueText (w .before .key-cue .result)) ≤ length (l .buf) = omega (arith, ap length q, l .inv .4) in
-    let f = put-there (l .buf) (w .write-cue .last .0) (cueText (w .before .key-cue .result)) (w .write-cue .result) (l .end) _ room (w .write-cue .ensures) (e .next .given .1) in (
+    let q = ap cueText (w .before .key-cue .ensures) in
+    let next = e .next .given in
+    let f = put-there (l .buf) (x .last .0) text (x .result) (l .end) _ (cue-fits w) (x .ensures) (next .1) in (
       omega arith,
       l .inv .1,
       l .inv .2,
-      w .write-cue .kept .0 ∙ l .inv .3,
-      omega (arith, f .0, ap length q, l .inv .4),
-      text-more-stored (a .keys .now) (a .n) (l .i) h (l .buf) (w .write-cue .last .0) (l .end) _ (f .0 ∙ ap (λ (x : Cue). l .end + length (cueText x)) (w .before .key-cue .ensures))
+      x .kept .0 ∙ l .inv .3,
+      omega (arith, t, f .0, ap length q, l .inv .4),
+      text-more-stored (a .keys .now) (a .n) (l .i) h (l .buf) (x .last .0) (l .end) _
+          (f .0 ∙ ap (λ (y : Cue). l .end + length (cueText y)) (w .before .key-cue .ensures))
           (f .1 ∙ ap (sets (l .buf) (l .end)) q)
           ∙ l .inv .5,
     )

@@ -5,11 +5,6 @@ use Rattle.scripts.specs.ScriptText.{textOf}
 use borrow.Author.Needs.{needs}
 use Rattle.scripts.proofs.writing.write_cues.Statement.{statement}
 use Rattle.scripts.proofs.writing.write_cues.Tie as tie
-use Rattle.scripts.proofs.writing.write_cues.Reads as reads
-use Rattle.scripts.proofs.writing.write_cues.Lts as lts
-use Rattle.buffers.proofs.fits.Reads as fits-reads
-use Rattle.scripts.proofs.writing.cues_length.Reads as cues-length-reads
-use Rattle.scripts.proofs.writing.put_cues.Reads as put-cues-reads
 
 cues-length-requires : tie.Need-cues-length-requires
 cues-length-requires c κs = search needs
@@ -32,7 +27,8 @@ returns c =
     let a = o .before .before .before .before .args in
     let h = room _ _ _ _ _ (o .fits2 .ensures) (r .before .before .if1 .taken) (o .before .cues-length .ensures .0) in
     let p = r .put-cues in
-    written (a .buf .now) (p .last .0) (textOf (keysIn (a .keys .now) (a .n))) (a .at) (p .result) h (p .ensures .0) (p .ensures .1)
+    let text = textOf (keysIn (a .keys .now) (a .n)) in
+    written (a .buf .now) (p .last .0) text (a .at) (p .result) h (p .ensures .0) (p .ensures .1)
 
 returns-2 : tie.Need-returns-2
 returns-2 c =

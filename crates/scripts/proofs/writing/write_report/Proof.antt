@@ -1,6 +1,5 @@
 -- `scripts::writing::write_report` meets its contract. Assumes nothing.
-use mathlib.Core.Path.{_≡_, ap, _∙_}
-use mathlib.Core.List.{List}
+use mathlib.Core.Path.{ap, _∙_}
 use Prim.Native.Nat.{ℕ}
 use Rattle.buffers.specs.Written.{writtenAt}
 use Rattle.records.specs.Record.{recordText}
@@ -9,12 +8,6 @@ use Rattle.scripts.proofs.WriteLaws.{report-refused, report-accepted}
 use borrow.Author.Needs.{needs}
 use Rattle.scripts.proofs.writing.write_report.Statement.{statement}
 use Rattle.scripts.proofs.writing.write_report.Tie as tie
-use Rattle.scripts.proofs.writing.write_report.Reads as reads
-use Rattle.scripts.proofs.writing.write_report.Lts as lts
-use Rattle.records.proofs.write_record.Reads as write-record-reads
-use Rattle.refusals.proofs.refusal_number.Reads as refusal-number-reads
-use Rattle.scripts.proofs.reading.read_script.Reads as read-script-reads
-use Rattle.scripts.proofs.writing.write_script.Reads as write-script-reads
 
 read-script-requires : tie.Need-read-script-requires
 read-script-requires c κs = search needs
@@ -41,9 +34,10 @@ returns c =
     let q = n .before .before .before .before in
     let r = q .before .before .read-script in
     let a = q .before .before .before .before .before .args in
+    let line = q .outcome .given .0 .1 .0 in
     let e = report-refused (a .text .now) _ (a .buf .now) _ (r .ensures) _ _ (q .outcome .given .1) in
-    w .write-record .ensures
-    ∙ (ap (λ (m : ℕ). writtenAt (a .buf .now) 0 (recordText (bytes "refused") m (q .outcome .given .0 .1 .0))) (n .refusal-number .ensures .0) ∙ ap (writtenAt (a .buf .now) 0) e)
+    let m = ap (λ (m : ℕ). recordText (bytes "refused") m line) (n .refusal-number .ensures .0) in
+    w .write-record .ensures ∙ ap (writtenAt (a .buf .now) 0) (m ∙ e)
 
 enum-told : tie.Need-enum-told
 enum-told c = search needs
