@@ -3,8 +3,8 @@
 //!     LIZKORPE_STATICLIB=folder cargo run --release -p bench
 
 use differential::library::{self, ROOM};
-use differential::random::Random;
-use differential::texts;
+use generate::random::Random;
+use generate::texts;
 use reference::script::{self, LONGEST_TEXT, MOST_CUES};
 use reference::stamp;
 use std::hint::black_box;

@@ -1,7 +1,7 @@
 //! One text through the proved library and through the reference.
 
 use differential::library::{self, ANSWER_TOO_SHORT};
-use differential::random::Random;
+use generate::random::Random;
 use reference::stamp;
 use std::fmt;
 

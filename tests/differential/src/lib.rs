@@ -1,6 +1,3 @@
-//! What the differential test and the benchmark share: the proved library as Rust calls it, and
-//! random texts to give it.
+//! What the differential test and the benchmark share: the proved library as Rust calls it.
 
 pub mod library;
-pub mod random;
-pub mod texts;

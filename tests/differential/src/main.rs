@@ -8,8 +8,8 @@ mod met;
 mod programs;
 
 use compare::Difference;
-use differential::random::Random;
-use differential::texts;
+use generate::random::Random;
+use generate::texts;
 use met::Met;
 use programs::Programs;
 use reference::script;

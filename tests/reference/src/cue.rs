@@ -40,7 +40,7 @@ impl Cue {
 }
 
 /// Appends the digits of a number. (`write!` would do as well, in about twice the time.)
-fn write_number(number: u32, text: &mut Vec<u8>) {
+pub(crate) fn write_number(number: u32, text: &mut Vec<u8>) {
     if number >= 10 {
         write_number(number / 10, text);
     }

@@ -48,7 +48,7 @@ pub fn read(text: &[u8]) -> Result<BTreeSet<Cue>, Refused> {
 }
 
 /// The lines of a text without their LF. The last LF may be missing; it adds no empty line.
-fn lines(text: &[u8]) -> impl Iterator<Item = &[u8]> {
+pub fn lines(text: &[u8]) -> impl Iterator<Item = &[u8]> {
     text.split_inclusive(|&byte| byte == b'\n').map(|line| line.strip_suffix(b"\n").unwrap_or(line))
 }
 

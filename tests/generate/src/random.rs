@@ -30,6 +30,17 @@ impl Random {
         items[self.below(items.len())]
     }
 
+    /// The index of a weight, more often of a greater one. The weights are not all 0.
+    pub fn weighted(&mut self, weights: &[usize]) -> usize {
+        let mut rest = self.below(weights.iter().sum());
+        let mut index = 0;
+        while rest >= weights[index] {
+            rest -= weights[index];
+            index += 1;
+        }
+        index
+    }
+
     pub fn shuffle<T>(&mut self, items: &mut [T]) {
         for end in (1..items.len()).rev() {
             items.swap(end, self.below(end + 1));

@@ -118,7 +118,7 @@ fn noise(random: &mut Random) -> Vec<u8> {
 }
 
 /// A text with one byte of it changed, left out or doubled.
-fn damaged(random: &mut Random, text: impl Fn(&mut Random) -> Vec<u8>) -> Vec<u8> {
+pub(crate) fn damaged(random: &mut Random, text: impl Fn(&mut Random) -> Vec<u8>) -> Vec<u8> {
     let mut text = text(random);
     if !text.is_empty() {
         let at = random.below(text.len());
@@ -159,13 +159,13 @@ fn odd_line(random: &mut Random) -> String {
     fields.join(",") + "\n"
 }
 
-fn without_last_byte(mut text: Vec<u8>) -> Vec<u8> {
+pub(crate) fn without_last_byte(mut text: Vec<u8>) -> Vec<u8> {
     text.pop();
     text
 }
 
 /// `count` different cues in random order, among them those given.
-fn different(random: &mut Random, given: &[Cue], count: usize) -> Vec<Cue> {
+pub(crate) fn different(random: &mut Random, given: &[Cue], count: usize) -> Vec<Cue> {
     let mut cues: BTreeSet<Cue> = given.iter().copied().collect();
     while cues.len() < count {
         cues.insert(cue(random));
@@ -190,7 +190,7 @@ fn within(random: &mut Random, range: RangeInclusive<u32>) -> u32 {
     }
 }
 
-fn lines(cues: &[Cue]) -> Vec<u8> {
+pub(crate) fn lines(cues: &[Cue]) -> Vec<u8> {
     let mut text = Vec::new();
     for cue in cues {
         cue.write_line(&mut text);

@@ -1,0 +1,5 @@
+//! Inputs for the tests and the benchmark: script texts and step lists, random but the same for a seed.
+
+pub mod random;
+pub mod steps;
+pub mod texts;
