@@ -1,0 +1,116 @@
+-- Step lines and answer lines, computed: each of the ten steps, each way to be malformed, and each kind of answer.
+-- Assumes nothing.
+use mathlib.Core.Path.{_≡_, refl}
+use mathlib.Core.List.{List, [], _∷_, map}
+use Prim.Native.Nat.{ℕ}
+use Prim.Native.String.{String}
+use Rattle.lines.specs.Ascii.{bytes}
+use Rattle.lines.specs.Lines.{upTo}
+use Rattle.numbers.specs.Digits.{digitsAt}
+use Rattle.numbers.specs.Number.{valueFrom, numberOf}
+use Rattle.records.specs.Record.{recordText}
+use Rattle.refusals.specs.declared.Refusal.the-variants.{TransactionOutOfRange, Blocked, QueueFull, BufferTooShort}
+use Rattle.refusals.specs.declared.Refusal.the-variants.{Malformed as MalformedLine}
+use Rattle.cues.specs.CueLine.{fieldsOf}
+use Rattle.cues.specs.CueText.{cueText}
+use Rattle.steps.specs.declared.reading.CueNumbers.{CueNumbers}
+use Rattle.steps.specs.declared.reading.Step.{Step}
+use Rattle.steps.specs.declared.reading.Step.the-variants.{
+  Begin,
+  Add,
+  Remove,
+  Has,
+  Push,
+  Min,
+  Take,
+  Commit,
+  Abort,
+  RollBack,
+  Malformed,
+}
+use Rattle.steps.specs.declared.answers.Answer.{Answer}
+use Rattle.steps.specs.declared.answers.Answer.the-variants.{Ok, Yes, No, Empty, Cue, Left, Refused}
+use Rattle.steps.specs.Word.{same, wordOf}
+use Rattle.steps.specs.Step.{stepOf}
+use Rattle.steps.specs.Answer.{refusalText, answerText}
+
+abbrev cue : ℕ → ℕ → ℕ → CueNumbers
+cue t m p = record { time = t; «module» = m; pin = p }
+
+-- a line without its LF, and the step that it stands for
+abbrev pub steps : List (String × Step)
+steps =
+    ("begin,1", Begin 1)
+    ∷ ("add,1,1500,2,9", Add 1 (cue 1500 2 9))
+    ∷ ("remove,2,1500,4,12", Remove 2 (cue 1500 4 12))
+    ∷ ("has,1,0,1,1", Has 1 (cue 0 1 1))
+    ∷ ("push,2,900,1,1", Push 2 (cue 900 1 1))
+    ∷ ("min,2", Min 2)
+    ∷ ("take,1", Take 1)
+    ∷ ("commit,1", Commit 1)
+    ∷ ("undo,2", Abort 2)
+    ∷ ("back,2", RollBack 2)
+    -- numbers out of range are read as they stand: rows 2 and 7 are asked later
+    ∷ ("begin,9", Begin 9)
+    ∷ ("add,1,0,1,33", Add 1 (cue 0 1 33))
+    ∷ ("add,9,0,1,0", Add 9 (cue 0 1 0))
+    ∷ ("has,0,999999999,999999999,999999999", Has 0 (cue 999999999 999999999 999999999))
+    -- an empty line, a CR, a space, a sign, a leading zero, ten digits, an empty field
+    ∷ ("", Malformed)
+    ∷ ("begin,1\r", Malformed)
+    ∷ ("begin, 1", Malformed)
+    ∷ (" begin,1", Malformed)
+    ∷ ("begin,+1", Malformed)
+    ∷ ("add,1,-1,1,1", Malformed)
+    ∷ ("add,1,05,1,1", Malformed)
+    ∷ ("add,01,5,1,1", Malformed)
+    ∷ ("min,1000000000", Malformed)
+    ∷ ("add,1000000000,0,1,1", Malformed)
+    ∷ ("add,1,,1,1", Malformed)
+    ∷ ("add,1,0,1,", Malformed)
+    -- a missing field, an extra field
+    ∷ ("begin", Malformed)
+    ∷ ("begin,", Malformed)
+    ∷ ("begin,1,", Malformed)
+    ∷ ("begin,1,2", Malformed)
+    ∷ ("add,1", Malformed)
+    ∷ ("add,0,1,1", Malformed)
+    ∷ ("add,1,0,1,1,1", Malformed)
+    ∷ ("min,1,0,1,1", Malformed)
+    -- an unknown word, a capital letter, no word, part of a word, more than a word, a cue line
+    ∷ ("look,1", Malformed)
+    ∷ ("Begin,1", Malformed)
+    ∷ ("ADD,1,0,1,1", Malformed)
+    ∷ (",1", Malformed)
+    ∷ ("beg,1", Malformed)
+    ∷ ("begins,1", Malformed)
+    ∷ ("1500,2,9", Malformed)
+    ∷ []
+
+-- each line stands for the step beside it
+pub steps-hold : map (λ x. stepOf (bytes (x .0))) steps ≡ map (λ x. x .1) steps
+unfolding upTo valueFrom numberOf fieldsOf same wordOf
+steps-hold = refl
+
+-- an answer, and its line
+abbrev pub answers : List (Answer × String)
+answers =
+    (Ok, "ok\n")
+    ∷ (Yes, "yes\n")
+    ∷ (No, "no\n")
+    ∷ (Empty, "empty\n")
+    ∷ (Cue (record { time = 900; «module» = 1; pin = 1 }), "cue,900,1,1\n")
+    ∷ (Left 1, "left,1\n")
+    ∷ (Left 0, "left,0\n")
+    ∷ (Left 16, "left,16\n")
+    ∷ (Refused MalformedLine, "refused,1\n")
+    ∷ (Refused TransactionOutOfRange, "refused,2\n")
+    ∷ (Refused (Blocked 1), "refused,8,1\n")
+    ∷ (Refused QueueFull, "refused,12\n")
+    ∷ (Refused BufferTooShort, "refused,14\n")
+    ∷ []
+
+-- each answer prints the line beside it
+pub answers-hold : map (λ x. answerText (x .0)) answers ≡ map (λ x. bytes (x .1)) answers
+unfolding digitsAt recordText cueText refusalText
+answers-hold = refl

@@ -1,0 +1,113 @@
+-- A step's line stands for that step and is its only line; an answer's line stands for that answer alone.
+-- Assumes nothing.
+use mathlib.Core.Path.{_≡_, refl, sym, ap, _∙_, subst}
+use mathlib.Core.List.{List, _∷_, _++_}
+use Prim.Native.Nat.{ℕ}
+use Rattle.lines.specs.Lines.{upTo}
+use Rattle.numbers.specs.Digits.{digitsOf}
+use Rattle.numbers.specs.Number.{numberOf}
+use Rattle.numbers.specs.declared.Number.{Number}
+use Rattle.numbers.specs.declared.Number.the-variants.{Value}
+use Rattle.numbers.specs.declared.Number.the-variants.{Malformed as NoNumber}
+use Rattle.numbers.proofs.Theorems.{read-is-canonical}
+use Rattle.cues.specs.CueLine.{field, others, fieldsOf}
+use Rattle.cues.specs.declared.Fields.{Fields}
+use Rattle.cues.specs.declared.Fields.the-variants.{Numbers}
+use Rattle.cues.specs.declared.Fields.the-variants.{Malformed as NoCue}
+use Rattle.steps.specs.declared.reading.CueNumbers.{CueNumbers}
+use Rattle.steps.specs.declared.reading.NumberWord.{NumberWord}
+use Rattle.steps.specs.declared.reading.NumberWord.the-variants.{
+  Begin as begin,
+  Min as min,
+  Take as take,
+  Commit as commit,
+  Undo as undo,
+  Back as back,
+}
+use Rattle.steps.specs.declared.reading.CueWord.{CueWord}
+use Rattle.steps.specs.declared.reading.CueWord.the-variants.{
+  Add as add,
+  Remove as remove,
+  Has as has,
+  Push as push,
+}
+use Rattle.steps.specs.declared.reading.Word.{Word}
+use Rattle.steps.specs.declared.reading.Word.the-variants.{WithNumber, WithCue, Unknown}
+use Rattle.steps.specs.declared.reading.Step.{Step}
+use Rattle.steps.specs.declared.reading.Step.the-variants.{
+  Begin,
+  Add,
+  Remove,
+  Has,
+  Push,
+  Min,
+  Take,
+  Commit,
+  Abort,
+  RollBack,
+  Malformed,
+}
+use Rattle.steps.specs.Word.{same, wordOf}
+use Rattle.steps.specs.Step.{numbered, cued, stepWith}
+use Rattle.steps.specs.StepText.{callText, stepText, NineDigitStep}
+use Rattle.steps.specs.Theorems.{StepWriteThenRead, StepReadIsCanonical, AnswersDiffer, AnswerLineOneLf}
+use Rattle.steps.proofs.StepText.{number-written, call-written, number-text, call-text, numberWord, cueWord}
+use Rattle.steps.proofs.StepText.{IsWord, is-word, at-comma, not-nil, call-canonical}
+use Rattle.steps.proofs.AnswerText.{answerBack, answer-back, answer-line}
+
+pub step-write-then-read : StepWriteThenRead
+unfolding upTo same wordOf
+step-write-then-read (Begin e) h = number-written begin e h
+step-write-then-read (Add e c) h = call-written add e c h
+step-write-then-read (Remove e c) h = call-written remove e c h
+step-write-then-read (Has e c) h = call-written has e c h
+step-write-then-read (Push e c) h = call-written push e c h
+step-write-then-read (Min e) h = number-written min e h
+step-write-then-read (Take e) h = number-written take e h
+step-write-then-read (Commit e) h = number-written commit e h
+step-write-then-read (Abort e) h = number-written undo e h
+step-write-then-read (RollBack e) h = number-written back e h
+step-write-then-read Malformed h = refl
+
+-- the line is the step's one text
+abbrev Canonical : List ℕ → Step → Type 0
+Canonical l s = (l ≡ stepText s) × NineDigitStep s
+
+by-number : (l : List ℕ) (k : NumberWord) (x : Number) → field l ≡ numberWord k → numberOf (others l) ≡ x
+    → (numbered k x ≡ Malformed → ⊥) → Canonical l (numbered k x)
+by-number l k NoNumber w v some = absurd (some refl)
+by-number l k (Value e) w v some =
+    let c = read-is-canonical (others l) e v in
+    let t = number-text k e (c .1) in
+    let s = at-comma l (not-nil (others l) e v) in
+    let q : l ≡ numberWord k ++ 44 ∷ digitsOf e = cc (s, w, c .0) in
+    (q ∙ t .0, t .1)
+
+by-cue : (l : List ℕ) (k : CueWord) (x : Number) (f : Fields) → field l ≡ cueWord k → numberOf (field (others l)) ≡ x
+    → fieldsOf (others (others l)) ≡ f → (cued k x f ≡ Malformed → ⊥) → Canonical l (cued k x f)
+by-cue l k NoNumber f w v e some = absurd (some refl)
+by-cue l k (Value n) NoCue w v e some = absurd (some refl)
+by-cue l k (Value n) (Numbers t m p) w v e some =
+    let c = call-canonical (others l) n t m p v e in
+    let cue : CueNumbers = record { time = t; «module» = m; pin = p } in
+    let x = call-text k n cue (c .1) in
+    let s = at-comma l (c .2) in
+    let q : l ≡ cueWord k ++ 44 ∷ callText n cue = cc (s, w, c .0) in
+    (q ∙ x .0, x .1)
+
+by-word : (l : List ℕ) (w : Word) → IsWord (field l) w → (stepWith w (others l) ≡ Malformed → ⊥)
+    → Canonical l (stepWith w (others l))
+by-word l (WithNumber k) e some = by-number l k (numberOf (others l)) e refl some
+by-word l (WithCue k) e some =
+    by-cue l k (numberOf (field (others l))) (fieldsOf (others (others l))) e refl refl some
+by-word l Unknown e some = absurd (some refl)
+
+pub step-read-is-canonical : StepReadIsCanonical
+step-read-is-canonical l s e some =
+    subst (Canonical l) e (by-word l (wordOf (field l)) (is-word (field l)) (λ q. some (sym e ∙ q)))
+
+pub answers-differ : AnswersDiffer
+answers-differ a b fa fb e = sym (answer-back a fa) ∙ (ap answerBack e ∙ answer-back b fb)
+
+pub answer-line-one-lf : AnswerLineOneLf
+answer-line-one-lf = answer-line

@@ -1,0 +1,7 @@
+-- The definitions that the contracts cite, and the statements of the theorems. Assumes nothing.
+pub mod Answer
+pub mod Field
+pub mod Step
+pub mod StepText
+pub mod Theorems
+pub mod Word

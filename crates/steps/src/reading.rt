@@ -1,0 +1,223 @@
+// A step line, read: its first byte leaves one word to compare with, and each field is scanned once.
+ghost use mathlib.Core.Path.{_≡_};
+ghost use mathlib.Core.Bool.{cond};
+ghost use lib.ListN.{length, drop};
+ghost use Rattle.cues.specs.CueLine.{field, others, fieldsOf};
+ghost use Rattle.numbers.specs.Number.{numberOf};
+ghost use Rattle.steps.specs.Word.{same, wordOf};
+ghost use Rattle.steps.specs.Field.{fieldAt, FieldWithin};
+ghost use Rattle.steps.specs.Step.{numbered, cueStep, cued, stepOf};
+use lines::find_byte;
+use numbers::Number;
+use numbers::read_number;
+
+const COMMA: u8 = 44;
+
+// The cue of a step line as raw numbers, whatever their range.
+pub struct CueNumbers {
+    pub time: u64,
+    pub module: u64,
+    pub pin: u64,
+}
+
+// The first number is the transaction's, which the papers call the edit's, whatever its range.
+pub enum Step {
+    Begin(u64),
+    Add(u64, CueNumbers),
+    Remove(u64, CueNumbers),
+    Has(u64, CueNumbers),
+    Push(u64, CueNumbers),
+    Min(u64),
+    Take(u64),
+    Commit(u64),
+    // The papers' `undo`: the edit unwinds from now on.
+    Abort(u64),
+    // The papers' `back`: one rollback step.
+    RollBack(u64),
+    // Refusal 1: a malformed line or an unknown word.
+    Malformed,
+}
+
+// The words of lines `word,e`, as the papers write them.
+enum NumberWord {
+    Begin,
+    Min,
+    Take,
+    Commit,
+    Undo,
+    Back,
+}
+
+// The words of lines `word,e,t,m,p`.
+enum CueWord {
+    Add,
+    Remove,
+    Has,
+    Push,
+}
+
+enum Word {
+    WithNumber(NumberWord),
+    WithCue(CueWord),
+    Unknown,
+}
+
+// The number of a field that a comma ends, and the place behind the comma.
+enum Field {
+    Number(u64, usize),
+    Malformed,
+}
+
+// Whether two stretches have the same bytes.
+fn same_bytes(a: &[u8], b: &[u8]) -> bool
+    ensures { λ r. ⌜ r ≡ same (now (a .entry)) (now (b .entry)) ⌝ }
+{
+    if a.len() != b.len() {
+        return false;
+    }
+    let mut i = 0;
+    while i < a.len() {
+        if a[i] != b[i] {
+            return false;
+        }
+        i += 1;
+    }
+    true
+}
+
+// The word, if the bytes are its text.
+fn word_if(bytes: &[u8], text: &[u8], word: Word) -> Word
+    ensures { λ r. ⌜ r ≡ cond (same (now (bytes .entry)) (now (text .entry))) word Word.Unknown ⌝ }
+{
+    if same_bytes(bytes, text) {
+        return word;
+    }
+    Word::Unknown
+}
+
+// The word that the bytes are. The first byte leaves one to compare with; `begin` and `back` differ in length.
+fn read_word(bytes: &[u8]) -> Word
+    ensures { λ r. ⌜ r ≡ wordOf (now (bytes .entry)) ⌝ }
+{
+    if bytes.len() == 0 {
+        return Word::Unknown;
+    }
+    match bytes[0] {
+        b'a' => word_if(bytes, b"add", Word::WithCue(CueWord::Add)),
+        b'b' => {
+            if bytes.len() == 5 {
+                return word_if(bytes, b"begin", Word::WithNumber(NumberWord::Begin));
+            }
+            word_if(bytes, b"back", Word::WithNumber(NumberWord::Back))
+        }
+        b'c' => word_if(bytes, b"commit", Word::WithNumber(NumberWord::Commit)),
+        b'h' => word_if(bytes, b"has", Word::WithCue(CueWord::Has)),
+        b'm' => word_if(bytes, b"min", Word::WithNumber(NumberWord::Min)),
+        b'p' => word_if(bytes, b"push", Word::WithCue(CueWord::Push)),
+        b'r' => word_if(bytes, b"remove", Word::WithCue(CueWord::Remove)),
+        b't' => word_if(bytes, b"take", Word::WithNumber(NumberWord::Take)),
+        b'u' => word_if(bytes, b"undo", Word::WithNumber(NumberWord::Undo)),
+        _ => Word::Unknown,
+    }
+}
+
+// The number field that starts at a place of the line and that a comma ends: 1 to 9 digits with no leading zero
+// except 0 itself. The second clause is the bound that a caller's index needs.
+fn read_field(line: &[u8], at: usize) -> Field
+    ensures { λ r. ⌜ (r ≡ fieldAt (now (line .entry)) at) × FieldWithin (length (now (line .entry))) r ⌝ }
+{
+    let mut n: u64 = 0;
+    let mut i = at;
+    while i < line.len() {
+        let b = line[i];
+        if b == COMMA {
+            if i == at {
+                return Field::Malformed;
+            }
+            if i - at == 1 {
+                return Field::Number(n, i + 1);
+            }
+            if line[at] == b'0' {
+                return Field::Malformed;
+            }
+            return Field::Number(n, i + 1);
+        }
+        if b < b'0' {
+            return Field::Malformed;
+        }
+        if b'9' < b {
+            return Field::Malformed;
+        }
+        if 8 < i - at {
+            return Field::Malformed;
+        }
+        n = n * 10 + ((b - b'0') as u64);
+        i += 1;
+    }
+    Field::Malformed
+}
+
+// The step of that word with the number behind it.
+fn number_step(word: NumberWord, number: Number) -> Step
+    ensures { λ r. ⌜ r ≡ numbered word number ⌝ }
+{
+    let Number::Value(e) = number else {
+        return Step::Malformed;
+    };
+    match word {
+        NumberWord::Begin => Step::Begin(e),
+        NumberWord::Min => Step::Min(e),
+        NumberWord::Take => Step::Take(e),
+        NumberWord::Commit => Step::Commit(e),
+        NumberWord::Undo => Step::Abort(e),
+        NumberWord::Back => Step::RollBack(e),
+    }
+}
+
+// The step of that word with the numbers behind it.
+fn cue_step(word: CueWord, e: u64, cue: CueNumbers) -> Step
+    ensures { λ r. ⌜ r ≡ cueStep word e cue ⌝ }
+{
+    match word {
+        CueWord::Add => Step::Add(e, cue),
+        CueWord::Remove => Step::Remove(e, cue),
+        CueWord::Has => Step::Has(e, cue),
+        CueWord::Push => Step::Push(e, cue),
+    }
+}
+
+// The step of that word with the fields `e,t,m,p`, which start at a place of the line.
+fn read_cue_step(word: CueWord, line: &[u8], at: usize) -> Step
+    ensures { λ r. ⌜ r ≡ cued word (numberOf (field (drop at (now (line .entry)))))
+        (fieldsOf (others (drop at (now (line .entry))))) ⌝ }
+{
+    let Field::Number(e, time_at) = read_field(line, at) else {
+        return Step::Malformed;
+    };
+    let Field::Number(time, module_at) = read_field(line, time_at) else {
+        return Step::Malformed;
+    };
+    let Field::Number(module, pin_at) = read_field(line, module_at) else {
+        return Step::Malformed;
+    };
+    let Number::Value(pin) = read_number(&line[pin_at..]) else {
+        return Step::Malformed;
+    };
+    cue_step(word, e, CueNumbers { time, module, pin })
+}
+
+// The step of a line, without its LF. Any bytes at all will do: what has not one of the ten forms is `Malformed`.
+pub fn read_step(line: &[u8]) -> Step
+    ensures { λ r. ⌜ r ≡ stepOf (now (line .entry)) ⌝ }
+{
+    let end = find_byte(line, 0, COMMA);
+    if end == line.len() {
+        return Step::Malformed;
+    }
+    let from = end + 1;
+    match read_word(&line[..end]) {
+        Word::WithNumber(word) => number_step(word, read_number(&line[from..])),
+        Word::WithCue(word) => read_cue_step(word, line, from),
+        Word::Unknown => Step::Malformed,
+    }
+}
