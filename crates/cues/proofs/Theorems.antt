@@ -26,7 +26,8 @@ use Rattle.cues.specs.declared.Fields.{Fields}
 use Rattle.cues.specs.declared.Fields.the-variants.{Numbers, Malformed}
 use Rattle.cues.specs.declared.CueLine.the-variants.{InRange as Found, Refused}
 use Rattle.cues.specs.Cue.{inRange, InRange, keyOf, cueOf}
-use Rattle.cues.specs.CueLine.{field, others, threeNumbers, fieldsOf, ranged, cueLineOf}
+use Rattle.numbers.specs.Field.{field}
+use Rattle.cues.specs.CueLine.{others, threeNumbers, fieldsOf, ranged, cueLineOf}
 use Rattle.cues.specs.CueText.{cueBody, cueText}
 use Rattle.records.specs.Record.{fieldText}
 use Rattle.records.proofs.Laws.{field-length}

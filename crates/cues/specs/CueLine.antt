@@ -2,10 +2,11 @@
 use Prim.Native.Nat.{ℕ, _+_}
 use mathlib.Core.Bool.{cond}
 use mathlib.Core.List.{List}
-use lib.ListN.{take, drop}
+use lib.ListN.{drop}
 use Rattle.refusals.specs.declared.Refusal.the-variants.{CueOutOfRange}
 use Rattle.refusals.specs.declared.Refusal.the-variants.{Malformed as MalformedLine}
 use Rattle.lines.specs.Lines.{upTo}
+use Rattle.numbers.specs.Field.{field}
 use Rattle.numbers.specs.Number.{numberOf}
 use Rattle.numbers.specs.declared.Number.{Number}
 use Rattle.numbers.specs.declared.Number.the-variants.{Value}
@@ -16,10 +17,7 @@ use Rattle.cues.specs.declared.CueLine.{CueLine}
 use Rattle.cues.specs.declared.CueLine.the-variants.{InRange, Refused}
 use Rattle.cues.specs.Cue.{inRange}
 
--- what stands before the first comma (44) of a line, and what behind it
-abbrev pub field : List ℕ → List ℕ
-field l = take (upTo 44 l) l
-
+-- what stands behind the first comma (44) of a line; `field` is what stands before it
 abbrev pub others : List ℕ → List ℕ
 others l = drop (upTo 44 l + 1) l
 

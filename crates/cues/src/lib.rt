@@ -9,14 +9,15 @@ ghost use lib.ListN.{length};
 ghost use lib.Seq.{sets};
 ghost use Rattle.buffers.specs.Written.{writtenAt};
 ghost use Rattle.cues.specs.Cue.{inRange, keyOf, cueOf};
-ghost use Rattle.cues.specs.CueLine.{threeNumbers, fieldsOf, ranged, cueLineOf};
+ghost use Rattle.cues.specs.CueLine.{fieldsOf, ranged, cueLineOf};
 ghost use Rattle.cues.specs.CueText.{cueText};
 ghost use Rattle.records.specs.Record.{fieldText};
 use buffers::Written;
 use buffers::fits;
-use lines::find_byte;
+use numbers::Field;
 use numbers::Number;
 use numbers::digit_count;
+use numbers::read_field;
 use numbers::read_number;
 use records::write_field;
 use refusals::Refusal;
@@ -74,16 +75,25 @@ pub fn key_cue(key: u64) -> Cue
     }
 }
 
-fn three_numbers(time: Number, module: Number, pin: Number) -> Fields
-    ensures { λ r. ⌜ r ≡ threeNumbers time «module» pin ⌝ }
+// The three numbers of `time,module,pin`, without its LF, in one pass. Their range is not tried.
+pub fn read_fields(line: &[u8]) -> Fields
+    ensures { λ r. ⌜ r ≡ fieldsOf (now (line .entry)) ⌝ }
 {
-    let Number::Value(t) = time else {
+    let Field::Number { value: t, end: a } = read_field(line, 0) else {
         return Fields::Malformed;
     };
-    let Number::Value(m) = module else {
+    if a == line.len() {
+        return Fields::Malformed;
+    }
+    let second = a + 1;
+    let Field::Number { value: m, end: b } = read_field(line, second) else {
         return Fields::Malformed;
     };
-    let Number::Value(p) = pin else {
+    if b == line.len() {
+        return Fields::Malformed;
+    }
+    let third = b + 1;
+    let Number::Value(p) = read_number(&line[third..]) else {
         return Fields::Malformed;
     };
     Fields::Numbers {
@@ -91,27 +101,6 @@ fn three_numbers(time: Number, module: Number, pin: Number) -> Fields
         module: m,
         pin: p,
     }
-}
-
-// The three numbers of `time,module,pin`, without its LF. Their range is not tried.
-pub fn read_fields(line: &[u8]) -> Fields
-    ensures { λ r. ⌜ r ≡ fieldsOf (now (line .entry)) ⌝ }
-{
-    let a = find_byte(line, 0, 44);
-    if a == line.len() {
-        return Fields::Malformed;
-    }
-    let from = a + 1;
-    let rest = &line[from..];
-    let b = find_byte(rest, 0, 44);
-    if b == rest.len() {
-        return Fields::Malformed;
-    }
-    let last = b + 1;
-    let time = read_number(&line[..a]);
-    let module = read_number(&rest[..b]);
-    let pin = read_number(&rest[last..]);
-    three_numbers(time, module, pin)
 }
 
 // The cue of numbers that are in range.

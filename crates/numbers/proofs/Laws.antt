@@ -7,16 +7,16 @@ use Prim.Native.Nat.{ℕ, zero, suc, _+_, _*_, _-_, _/_, _%_, _^_, _≤_, _<_}
 use native.Mathlib.Nat.{pow-suc, pow-le-pow-right, mod-eq-of-lt}
 use native.Mathlib.Numerals.{add-one, sub-one}
 use native.Mathlib.Omega.{arith}
-use lib.Dec.{ltb, lit<}
-use lib.ListN.{length, getD, drop, set, length-append, drop-of-length-le}
-use lib.Seq.{drop-cons, sets}
-use borrow.Author.Tests.{lt-ltb, le-ltb}
+use lib.Dec.{ltb, eqb, lit<}
+use lib.ListN.{length, getD, set, length-append}
+use lib.Seq.{sets}
+use borrow.Author.Tests.{lt-ltb, le-ltb, eq-eqb, ne-eqb, eqb-true, eqb-false}
 use Rattle.buffers.proofs.Laws.{sets-append}
 use Rattle.lines.specs.Lines.{upTo}
 use Rattle.lines.proofs.Laws.{lt-or-ge, none-one, none-append}
 use Rattle.numbers.specs.declared.Number.the-variants.{Value, Malformed}
 use Rattle.numbers.specs.Digits.{digitsAt}
-use Rattle.numbers.specs.Number.{valueFrom}
+use Rattle.numbers.specs.Number.{valueFrom, numberOf}
 
 -- ---- powers of ten
 pub ten-more : (i : ℕ) → 10 ^ (i + 1) ≡ 10 ^ i * 10
@@ -26,23 +26,48 @@ pub ten-le : (i j : ℕ) → i ≤ j → 10 ^ i ≤ 10 ^ j
 ten-le i j h = pow-le-pow-right {n = 10} (lit< tt) h
 
 -- ---- a byte more of a number
-pub num-low : (s : List ℕ) (n i : ℕ) → i < length s → getD s i 0 < 48 → valueFrom n (drop i s) ≡ Malformed
+pub value-more : (b : ℕ) (bs : List ℕ) (n : ℕ) → 48 ≤ b → b ≤ 57
+    → valueFrom n (b ∷ bs) ≡ valueFrom (n * 10 + (b - 48)) bs
 unfolding valueFrom
-num-low s n i h l = rw (drop-cons s i 0 h) (simp (lt-ltb _ _ l))
+value-more b bs n l g = simp (le-ltb _ _ l, le-ltb _ _ g)
 
-pub num-high : (s : List ℕ) (n i : ℕ) → i < length s → 48 ≤ getD s i 0 → 57 < getD s i 0
-    → valueFrom n (drop i s) ≡ Malformed
+pub value-end : (s : List ℕ) (n : ℕ) → s ≡ [] → valueFrom n s ≡ Value n
 unfolding valueFrom
-num-high s n i h l g = rw (drop-cons s i 0 h) (simp (le-ltb _ _ l, lt-ltb _ _ g))
+value-end s n e = rw e
 
-pub num-more : (s : List ℕ) (n i : ℕ) → i < length s → 48 ≤ getD s i 0 → getD s i 0 ≤ 57
-    → valueFrom n (drop i s) ≡ valueFrom (n * 10 + (getD s i 0 - 48)) (drop (i + 1) s)
-unfolding valueFrom
-num-more s n i h l g = rw (drop-cons s i 0 h, add-one) (simp (le-ltb _ _ l, le-ltb _ _ g))
+-- ---- the tests of `numberOf`
+pub number-good : (s : List ℕ) → 0 < length s → length s ≤ 9 → ((length s ≡ 1 → ⊥) → getD s 0 0 ≡ 48 → ⊥)
+    → numberOf s ≡ valueFrom 0 s
+unfolding numberOf
+number-good s h l f =
+    simp (ne-eqb (length s) 0 (λ e. omega arith), le-ltb 9 (length s) l)
+    (last (eqb (length s) 1) (eqb (getD s 0 0) 48) refl refl)
+  where
+    last : (p q : Bool) → eqb (length s) 1 ≡ p → eqb (getD s 0 0) 48 ≡ q
+        → cond p (valueFrom 0 s) (cond q Malformed (valueFrom 0 s)) ≡ valueFrom 0 s
+    last true q ep eq = refl
+    last false false ep eq = refl
+    last false true ep eq = absurd (f (eqb-false _ _ ep) (eqb-true _ _ eq))
 
-pub num-end : (s : List ℕ) (n i : ℕ) → length s ≤ i → valueFrom n (drop i s) ≡ Value n
-unfolding valueFrom
-num-end s n i h = rw (drop-of-length-le s h)
+pub number-empty : (s : List ℕ) → length s ≡ 0 → numberOf s ≡ Malformed
+unfolding numberOf
+number-empty s e = simp (eq-eqb _ _ e)
+
+pub number-long : (s : List ℕ) → 9 < length s → numberOf s ≡ Malformed
+unfolding numberOf
+number-long s h = simp (ne-eqb (length s) 0 (λ e. omega arith), lt-ltb _ _ h)
+
+same : (t : Bool) → cond t Malformed Malformed ≡ Malformed
+same true = refl
+same false = refl
+
+pub number-zero : (s : List ℕ) → (length s ≡ 1 → ⊥) → getD s 0 0 ≡ 48 → numberOf s ≡ Malformed
+unfolding numberOf
+number-zero s h e = simp (ne-eqb _ _ h, eq-eqb _ _ e, same)
+
+pub number-bad : (s : List ℕ) → valueFrom 0 s ≡ Malformed → numberOf s ≡ Malformed
+unfolding numberOf
+number-bad s e = simp (e, same)
 
 -- ---- the digits of a number: each law takes the code's tests as premises
 pub digits-last : (k n : ℕ) → k ≡ 0 → digitsAt k n ≡ (48 + n % 10) ∷ []

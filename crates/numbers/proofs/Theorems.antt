@@ -10,14 +10,14 @@ use native.Mathlib.Omega.{arith}
 use lib.Dec.{ltb, eqb}
 use lib.ListN.{length, getD, take, length-append, List·getD-append}
 use lib.Seq.{take-suc, take-all, length-take-le, getD-take}
-use borrow.Author.Tests.{lt-ltb, le-ltb, ne-eqb, ltb-false, eqb-true, eqb-false}
+use borrow.Author.Tests.{lt-ltb, le-ltb, ltb-false, eqb-true, eqb-false}
 use Rattle.lines.proofs.Laws.{lt-or-ge}
 use Rattle.numbers.specs.declared.Number.{Number}
 use Rattle.numbers.specs.declared.Number.the-variants.{Value, Malformed}
 use Rattle.numbers.specs.Digits.{digitsAt, digitsOf}
 use Rattle.numbers.specs.Number.{valueFrom, numberOf}
 use Rattle.numbers.specs.Theorems.{WriteThenRead, EveryNumber, ReadIsCanonical}
-use Rattle.numbers.proofs.Laws.{digits-step, digits-small, digits-at-most, ten-le}
+use Rattle.numbers.proofs.Laws.{digits-step, digits-small, digits-at-most, ten-le, number-good}
 
 -- digits behind a number, or behind none
 abbrev andThen : Number → List ℕ → Number
@@ -97,20 +97,6 @@ head-at (suc k) n h e =
 zero-at : (n : ℕ) → n ≡ 0 → length (digitsOf n) ≡ 1
 unfolding digitsAt
 zero-at n e = rw e
-
--- the tests of `numberOf`, one after the other
-number-good : (s : List ℕ) → 0 < length s → length s ≤ 9 → ((length s ≡ 1 → ⊥) → getD s 0 0 ≡ 48 → ⊥)
-    → numberOf s ≡ valueFrom 0 s
-unfolding numberOf
-number-good s h l f =
-    simp (ne-eqb (length s) 0 (λ e. omega arith), le-ltb 9 (length s) l)
-    (last (eqb (length s) 1) (eqb (getD s 0 0) 48) refl refl)
-  where
-    last : (p q : Bool) → eqb (length s) 1 ≡ p → eqb (getD s 0 0) 48 ≡ q
-        → cond p (valueFrom 0 s) (cond q Malformed (valueFrom 0 s)) ≡ valueFrom 0 s
-    last true q ep eq = refl
-    last false false ep eq = refl
-    last false true ep eq = absurd (f (eqb-false _ _ ep) (eqb-true _ _ eq))
 
 pub write-then-read : WriteThenRead
 write-then-read n h =

@@ -1,3 +1,4 @@
 pub mod Digits
+pub mod Field
 pub mod Number
 pub mod Theorems

@@ -2,9 +2,9 @@
 pub mod AnswerLaws
 pub mod AnswerText
 pub mod Examples
-pub mod Fields
 pub mod Parts
 pub mod StepText
 pub mod Steps
 pub mod Theorems
 pub mod Words
+pub mod Fields

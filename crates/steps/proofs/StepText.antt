@@ -21,7 +21,8 @@ use Rattle.numbers.specs.declared.Number.the-variants.{Value}
 use Rattle.numbers.specs.declared.Number.the-variants.{Malformed as NoNumber}
 use Rattle.numbers.proofs.Laws.{none-digits}
 use Rattle.numbers.proofs.Theorems.{write-then-read, read-is-canonical}
-use Rattle.cues.specs.CueLine.{field, others, threeNumbers, fieldsOf}
+use Rattle.numbers.specs.Field.{field}
+use Rattle.cues.specs.CueLine.{others, threeNumbers, fieldsOf}
 use Rattle.cues.specs.declared.Fields.the-variants.{Numbers}
 use Rattle.steps.specs.declared.reading.CueNumbers.{CueNumbers}
 use Rattle.steps.specs.declared.reading.NumberWord.{NumberWord}

@@ -3,12 +3,12 @@ use mathlib.Core.Path.{_≡_, refl, sym, ap, _∙_}
 use mathlib.Core.Bool.{Bool, true, false, cond}
 use mathlib.Core.List.{List, []}
 use mathlib.Core.Logic.{_⊎_, inl, inr, ⊎-elim}
-use Prim.Native.Nat.{ℕ, _+_, _-_, _≤_}
+use Prim.Native.Nat.{ℕ, _+_, _-_, _≤_, max}
 use native.Mathlib.Nat.{zero-add}
 use native.Mathlib.Omega.{arith}
 use lib.Dec.{ltb}
-use lib.ListN.{length, take, drop, drop-of-length-le}
-use lib.Seq.{drop-drop}
+use lib.ListN.{length, take, drop, length-drop, drop-of-length-le}
+use lib.Seq.{drop-drop, take-all}
 use borrow.Author.Tests.{ltb-false}
 use Rattle.lines.specs.Lines.{upTo}
 use Rattle.lines.proofs.Laws.{up-le}
@@ -16,10 +16,11 @@ use Rattle.numbers.specs.Number.{numberOf}
 use Rattle.numbers.specs.declared.Number.{Number}
 use Rattle.numbers.specs.declared.Number.the-variants.{Value}
 use Rattle.numbers.specs.declared.Number.the-variants.{Malformed as NoNumber}
-use Rattle.cues.specs.CueLine.{field, others, threeNumbers, fieldsOf}
+use Rattle.numbers.specs.Field.{field}
+use Rattle.cues.specs.CueLine.{others, threeNumbers, fieldsOf}
 use Rattle.cues.specs.declared.Fields.the-variants.{Numbers}
 use Rattle.cues.specs.declared.Fields.the-variants.{Malformed as NoCue}
-use Rattle.cues.proofs.Laws.{no-comma, one-comma, rest-is}
+use Rattle.cues.proofs.Laws.{no-comma, one-comma}
 use Rattle.steps.specs.declared.reading.CueNumbers.{CueNumbers}
 use Rattle.steps.specs.declared.reading.NumberWord.{NumberWord}
 use Rattle.steps.specs.declared.reading.CueWord.{CueWord}
@@ -33,6 +34,16 @@ use Rattle.steps.specs.declared.reading.Step.the-variants.{Malformed}
 use Rattle.steps.specs.Word.{wordOf}
 use Rattle.steps.specs.Field.{upToPlace, fieldAt, FieldWithin}
 use Rattle.steps.specs.Step.{numberStep, numbered, cueStep, cued, stepWith, stepOf}
+
+-- ---- parts of a line
+
+-- the bound that a search from place 0 on gives
+pub from-start : (r n : ℕ) → r ≤ max 0 n → r ≤ n
+from-start r n h = omega arith
+
+-- the part behind a place is what is left
+pub rest-is : (l : List ℕ) (a : ℕ) → take (length l - a) (drop a l) ≡ drop a l
+rest-is l a = take-all (length l - a) (drop a l) (omega (arith, length-drop a l))
 
 -- ---- the step of a word
 pub number-word : (w k : NumberWord) (n : Number) (e : ℕ) → w ≡ k → n ≡ Value e → numberStep k e ≡ numbered w n

@@ -10,7 +10,8 @@ use Rattle.numbers.specs.declared.Number.{Number}
 use Rattle.numbers.specs.declared.Number.the-variants.{Value}
 use Rattle.numbers.specs.declared.Number.the-variants.{Malformed as NoNumber}
 use Rattle.numbers.proofs.Theorems.{read-is-canonical}
-use Rattle.cues.specs.CueLine.{field, others, fieldsOf}
+use Rattle.numbers.specs.Field.{field}
+use Rattle.cues.specs.CueLine.{others, fieldsOf}
 use Rattle.cues.specs.declared.Fields.{Fields}
 use Rattle.cues.specs.declared.Fields.the-variants.{Numbers}
 use Rattle.cues.specs.declared.Fields.the-variants.{Malformed as NoCue}

@@ -9,7 +9,7 @@ use Rattle.numbers.specs.Number.{numberOf}
 use Rattle.numbers.specs.declared.Number.the-variants.{Value}
 use Rattle.numbers.specs.declared.Number.the-variants.{Malformed as NoNumber}
 use Rattle.numbers.specs.declared.Number.{Number as FieldNumber}
-use Rattle.cues.specs.CueLine.{field}
+use Rattle.numbers.specs.Field.{field}
 use Rattle.steps.specs.declared.reading.Field.{Field}
 use Rattle.steps.specs.declared.reading.Field.the-variants.{Number, Malformed}
 

@@ -2,7 +2,8 @@
 ghost use mathlib.Core.Path.{_≡_};
 ghost use mathlib.Core.Bool.{cond};
 ghost use lib.ListN.{length, drop};
-ghost use Rattle.cues.specs.CueLine.{field, others, fieldsOf};
+ghost use Rattle.numbers.specs.Field.{field};
+ghost use Rattle.cues.specs.CueLine.{others, fieldsOf};
 ghost use Rattle.numbers.specs.Number.{numberOf};
 ghost use Rattle.steps.specs.Word.{same, wordOf};
 ghost use Rattle.steps.specs.Field.{fieldAt, FieldWithin};
@@ -121,38 +122,16 @@ fn read_word(bytes: &[u8]) -> Word
     }
 }
 
-// The number field that starts at a place of the line and that a comma ends: 1 to 9 digits with no leading zero
-// except 0 itself. The second clause is the bound that a caller's index needs.
+// The number field that starts at a place of the line and that a comma ends. The second clause is the bound that a
+// caller's index needs.
 fn read_field(line: &[u8], at: usize) -> Field
     ensures { λ r. ⌜ (r ≡ fieldAt (now (line .entry)) at) × FieldWithin (length (now (line .entry))) r ⌝ }
 {
-    let mut n: u64 = 0;
-    let mut i = at;
-    while i < line.len() {
-        let b = line[i];
-        if b == COMMA {
-            if i == at {
-                return Field::Malformed;
-            }
-            if i - at == 1 {
-                return Field::Number(n, i + 1);
-            }
-            if line[at] == b'0' {
-                return Field::Malformed;
-            }
-            return Field::Number(n, i + 1);
-        }
-        if b < b'0' {
-            return Field::Malformed;
-        }
-        if b'9' < b {
-            return Field::Malformed;
-        }
-        if 8 < i - at {
-            return Field::Malformed;
-        }
-        n = n * 10 + ((b - b'0') as u64);
-        i += 1;
+    let numbers::Field::Number { value, end } = numbers::read_field(line, at) else {
+        return Field::Malformed;
+    };
+    if end < line.len() {
+        return Field::Number(value, end + 1);
     }
     Field::Malformed
 }

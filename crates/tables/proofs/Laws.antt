@@ -1,9 +1,9 @@
 -- Laws of the sorted lists of specs/Table. Assumes nothing.
 use mathlib.Core.Path.{_≡_, refl, ap, sym, _∙_}
-use mathlib.Core.Bool.{Bool, true, false, cond, _||_}
+use mathlib.Core.Bool.{Bool, true, false, _||_}
 use mathlib.Core.List.{List, [], _∷_, _++_, append-assoc}
-use Prim.Native.Nat.{ℕ, zero, suc, _+_, _*_, _-_, _≤_, _<_}
-use native.Mathlib.Nat.{mul-one, mul-zero, mul-le-mul-left, le-of-suc-le-suc, not-suc-le-zero}
+use Prim.Native.Nat.{ℕ, zero, suc, _+_, _≤_, _<_}
+use native.Mathlib.Nat.{le-of-suc-le-suc, not-suc-le-zero}
 use native.Mathlib.Omega.{arith}
 use lib.Dec.{ltb, eqb}
 use native.Mathlib.Nat.{add-zero}
@@ -377,34 +377,3 @@ ext-rising (x ∷ l) (y ∷ m) o p f =
         let yz : eqb y z ≡ false = rw e at q in
         let g : (eqb x z || memberOf z l) ≡ (eqb y z || memberOf z m) = f z in
         rw (q, yz) at g)
-
--- ---- a number that is 1 or 0 by a test
-pub scaled : (b : Bool) (h r : ℕ) → r ≡ cond b 1 0 → h * r ≡ cond b h 0
-scaled true h r e = rw (e, mul-one h)
-scaled false h r e = rw (e, mul-zero h)
-
-pub scaled-le : (h r : ℕ) → r ≤ 1 → h * r ≤ h
-scaled-le h r l = rw mul-one at (mul-le-mul-left h l)
-
--- one step of a search by halves: the rank is in the upper half where the key in the middle is below k, else in the lower
-pub rank-half : (k : ℕ) (l : List ℕ) (base size half r : ℕ) → Ordered 0 l → base + size ≤ length l → half < size → half + half ≤ size
-    → base ≤ rankOf k l → rankOf k l ≤ base + size → r ≡ cond (ltb (getD l (base + half) 0) k) 1 0
-    → (base + half * r ≤ rankOf k l) × (rankOf k l ≤ base + half * r + (size - half)) × (base + half * r + (size - half) ≤ length l)
-rank-half k l base size half r o h s t a b e = by-test (ltb (getD l (base + half) 0) k) refl e
-  where
-    by-test : (x : Bool) → ltb (getD l (base + half) 0) k ≡ x → r ≡ cond x 1 0
-        → (base + half * r ≤ rankOf k l) × (rankOf k l ≤ base + half * r + (size - half)) × (base + half * r + (size - half) ≤ length l)
-    by-test true q f =
-        let m = scaled true half r f in
-        omega (arith, rank-up k l o (base + half) (omega arith) (ltb-true _ _ q))
-    by-test false q f =
-        let m = scaled false half r f in
-        omega (arith, rank-down k l (base + half) (omega arith) (ltb-false _ _ q))
-
-pub rank-last : (k : ℕ) (l : List ℕ) (base r : ℕ) → Ordered 0 l → base < length l → base ≤ rankOf k l → rankOf k l ≤ base + 1
-    → r ≡ cond (ltb (getD l base 0) k) 1 0 → base + r ≡ rankOf k l
-rank-last k l base r o h a b e = by-test (ltb (getD l base 0) k) refl e
-  where
-    by-test : (x : Bool) → ltb (getD l base 0) k ≡ x → r ≡ cond x 1 0 → base + r ≡ rankOf k l
-    by-test true q f = omega (arith, rank-up k l o base h (ltb-true _ _ q))
-    by-test false q f = omega (arith, rank-down k l base h (ltb-false _ _ q))

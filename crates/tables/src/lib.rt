@@ -4,37 +4,27 @@
 // the order, in as many steps as the table's length has bits. A `requires` asks for what a table is:
 // that its n words are there and in order.
 ghost use mathlib.Core.Path.{_≡_};
-ghost use mathlib.Core.Bool.{cond};
 ghost use mathlib.Core.List.{_∷_, _++_};
 ghost use Prim.Native.Nat.{_+_, _-_, _≤_, _<_};
-ghost use lib.Dec.{ltb};
 ghost use lib.ListN.{length, take, drop};
 ghost use Rattle.tables.specs.Table.{Ordered, rankOf, memberOf};
 
-// 1 where a is below b, else 0: a number, so that the search below has no branch to guess.
-fn below(a: u64, b: u64) -> usize
-    ensures { λ r. ⌜ (r ≡ cond (ltb a b) 1 0) × (r ≤ 1) ⌝ }
-{
-    if a < b { 1 } else { 0 }
-}
-
-// How many keys are below `key`: where it stands, or would stand. A search by halves: the rank lies in the `size` keys
-// from `base` on, or right behind them.
+// How many keys are below `key`: where it stands, or would stand.
 pub fn rank(keys: &[u64], n: usize, key: u64) -> usize
     requires { ⌜ (n ≤ length (now keys)) × Ordered 0 (take n (now keys)) ⌝ }
     ensures { λ r. ⌜ (r ≡ rankOf key (take n (now (keys .entry)))) × (r ≤ n) ⌝ }
 {
-    if n == 0 {
-        return 0;
+    let mut lo = 0;
+    let mut hi = n;
+    while lo < hi {
+        let mid = lo + (hi - lo) / 2;
+        if keys[mid] < key {
+            lo = mid + 1;
+        } else {
+            hi = mid;
+        }
     }
-    let mut base = 0;
-    let mut size = n;
-    while 1 < size {
-        let half = size / 2;
-        base += half * below(keys[base + half], key);
-        size -= half;
-    }
-    base + below(keys[base], key)
+    lo
 }
 
 // Whether the key stands in the table, by its rank.

@@ -1,115 +1,138 @@
--- `cues::read_fields` meets its contract: the commas divide the line into its fields. Assumes nothing.
-use mathlib.Core.Path.{_≡_, refl, sym, ap, _∙_}
-use Prim.Native.Nat.{ℕ, _+_, _-_}
+-- `cues::read_fields` meets its contract: two fields that end at a comma, and what is left. Assumes nothing.
+use mathlib.Core.Path.{sym, _∙_}
 use native.Mathlib.Omega.{arith}
-use lib.ListN.{length, take, drop}
-use lib.Seq.{length-take-le}
-use Rattle.lines.specs.Lines.{upTo}
-use Rattle.cues.specs.CueLine.{others}
-use Rattle.cues.proofs.Laws.{from-start, no-comma, one-comma, rest-is, three-fields}
+use Rattle.numbers.proofs.FieldLaws.{field-fits}
+use Rattle.cues.proofs.Laws.{time-none, time-all, module-none, module-last, two-read, pin-none, three-read}
 use borrow.Author.Needs.{needs}
 use Rattle.cues.proofs.read_fields.Statement.{statement}
 use Rattle.cues.proofs.read_fields.Tie as tie
 
-find-byte-requires : tie.Need-find-byte-requires
-find-byte-requires c κs = search needs
+read-field-requires : tie.Need-read-field-requires
+read-field-requires c κs = search needs
+
+enum-known-t : tie.Need-enum-known-t
+enum-known-t c = search needs
+
+enum-told : tie.Need-enum-told
+enum-told c = search needs
 
 returns : tie.Need-returns
 returns c =
-    let l = c .before .before .before .args .line .now in
-    let e : upTo 44 l ≡ length l = omega arith in
-    sym (no-comma l e)
-
-add-from : tie.Need-add-from
-add-from c = search needs
-
-sub-rest : tie.Need-sub-rest
-sub-rest c = search needs
-
-part-rest-start : tie.Need-part-rest-start
-part-rest-start c = search needs
-
-part-rest-end : tie.Need-part-rest-end
-part-rest-end c = search needs
-
-find-byte-requires-2 : tie.Need-find-byte-requires-2
-find-byte-requires-2 c κs = search needs
+    let r = c .before .before in
+    time-none (r .before .before .args .line .now) (sym (r .read-field .ensures .0) ∙ c .enum-told .given .1)
 
 returns-2 : tie.Need-returns-2
 returns-2 c =
-    let l = c .before .before .before .before .before .before .args .line .now in
-    let a = c .before .before .before .before .find-byte in
-    let b = c .before .find-byte2 in
-    let ea : a .result ≡ upTo 44 l = omega (arith, a .ensures .0) in
-    let tail = take (length l - (a .result + 1)) (drop (a .result + 1) l) in
-    let r : tail ≡ others l = rest-is l (a .result + 1) ∙ ap (λ (n : ℕ). drop (n + 1) l) ea in
-    let eb : upTo 44 tail ≡ length tail = omega arith in
-    sym (one-comma l (rw r at eb))
+    let t = c .before .before in
+    let r = t .before .before in
+    time-all (r .before .before .args .line .now) _ _ (sym (r .read-field .ensures .0) ∙ t .t .given .1) (c .if1 .taken)
 
-add-last : tie.Need-add-last
-add-last c = search needs
+add-second : tie.Need-add-second
+add-second c =
+    let t = c .before .before in
+    omega (arith, field-fits _ _ _ _ (t .t .given .1) (t .before .before .read-field .ensures .1) .0)
 
-slice-aggregate-read-number : tie.Need-slice-aggregate-read-number
-slice-aggregate-read-number c =
-    sym (length-take-le _ _ (from-start _ _ (c .before .before .before .before .before .find-byte .ensures .1)))
+read-field-requires-2 : tie.Need-read-field-requires-2
+read-field-requires-2 c κs = search needs
 
-read-number-requires : tie.Need-read-number-requires
-read-number-requires c κs = search needs
+enum-known-m : tie.Need-enum-known-m
+enum-known-m c = search needs
 
-slice-aggregate-read-number-2 : tie.Need-slice-aggregate-read-number-2
-slice-aggregate-read-number-2 c =
-    sym (length-take-le _ _ (from-start _ _ (c .before .before .before .before .find-byte2 .ensures .1)))
+enum-told-2 : tie.Need-enum-told-2
+enum-told-2 c = search needs
 
-read-number-requires-2 : tie.Need-read-number-requires-2
-read-number-requires-2 c κs = search needs
+returns-3 : tie.Need-returns-3
+returns-3 c =
+    let q = c .before .before in
+    let t = q .before .before .before in
+    let r = t .before .before in
+    module-none (r .before .before .args .line .now) _ _ (sym (r .read-field .ensures .0) ∙ t .t .given .1)
+    (sym (q .read-field2 .ensures .0) ∙ c .enum-told2 .given .1)
+
+returns-4 : tie.Need-returns-4
+returns-4 c =
+    let m = c .before .before in
+    let q = m .before .before in
+    let t = q .before .before .before in
+    let r = t .before .before in
+    module-last (r .before .before .args .line .now) _ _ _ _ (sym (r .read-field .ensures .0) ∙ t .t .given .1)
+    (sym (q .read-field2 .ensures .0) ∙ m .m .given .1) (c .if2 .taken)
+
+add-third : tie.Need-add-third
+add-third c =
+    let m = c .before .before in
+    omega (arith, field-fits _ _ _ _ (m .m .given .1) (m .before .before .read-field2 .ensures .1) .0)
 
 sub-read-number : tie.Need-sub-read-number
-sub-read-number c = search needs
+sub-read-number c =
+    let m = c .before .before in
+    omega (arith, field-fits _ _ _ _ (m .m .given .1) (m .before .before .read-field2 .ensures .1) .0)
 
 part-read-number-start : tie.Need-part-read-number-start
-part-read-number-start c = search needs
+part-read-number-start c =
+    let m = c .before .before in
+    omega (arith, field-fits _ _ _ _ (m .m .given .1) (m .before .before .read-field2 .ensures .1) .0)
 
 part-read-number-end : tie.Need-part-read-number-end
 part-read-number-end c = search needs
 
-read-number-requires-3 : tie.Need-read-number-requires-3
-read-number-requires-3 c κs = search needs
+read-number-requires : tie.Need-read-number-requires
+read-number-requires c κs = search needs
 
-three-numbers-requires : tie.Need-three-numbers-requires
-three-numbers-requires c κs = search needs
+enum-known-p : tie.Need-enum-known-p
+enum-known-p c = search needs
 
-returns-3 : tie.Need-returns-3
-returns-3 c =
+enum-told-3 : tie.Need-enum-told-3
+enum-told-3 c = search needs
+
+returns-5 : tie.Need-returns-5
+returns-5 c =
+    let n = c .before .before in
+    let m = n .before .before .before .before in
+    let q = m .before .before in
+    let t = q .before .before .before in
+    let r = t .before .before in
+    let l = r .before .before .args .line .now in
+    let two =
+    two-read l _ _ _ _ (sym (r .read-field .ensures .0) ∙ t .t .given .1)
+    (sym (q .read-field2 .ensures .0) ∙ m .m .given .1) in
+    pin-none l _ _ _ two (sym (n .read-number .ensures .0) ∙ c .enum-told3 .given .1)
+
+returns-6 : tie.Need-returns-6
+returns-6 c =
     let p = c .before in
-    let m = p .before .before in
-    let t = m .before .before in
-    let b = t .before .before .before in
-    let a = b .before .before .before in
-    let l = a .before .before .args .line .now in
-    three-fields l _ (a .find-byte .result) (b .find-byte2 .result) _ _ _ _ (a .find-byte .ensures .0) refl
-    (b .find-byte2 .ensures .0) (t .read-number .ensures .0) (m .read-number2 .ensures .0) (p .read-number3 .ensures .0)
-    (c .three-numbers .ensures)
+    let n = p .before .before in
+    let m = n .before .before .before .before in
+    let q = m .before .before in
+    let t = q .before .before .before in
+    let r = t .before .before in
+    let l = r .before .before .args .line .now in
+    let two =
+    two-read l _ _ _ _ (sym (r .read-field .ensures .0) ∙ t .t .given .1)
+    (sym (q .read-field2 .ensures .0) ∙ m .m .given .1) in
+    three-read l _ _ _ _ two (sym (n .read-number .ensures .0) ∙ p .p .given .1)
 
 pub read-fields-spec : {M : Type 1} → statement M
 read-fields-spec =
     tie.close
     (tie.spec
-    find-byte-requires
+    read-field-requires
+    enum-known-t
+    enum-told
     returns
-    add-from
-    sub-rest
-    part-rest-start
-    part-rest-end
-    find-byte-requires-2
     returns-2
-    add-last
-    slice-aggregate-read-number
-    read-number-requires
-    slice-aggregate-read-number-2
-    read-number-requires-2
+    add-second
+    read-field-requires-2
+    enum-known-m
+    enum-told-2
+    returns-3
+    returns-4
+    add-third
     sub-read-number
     part-read-number-start
     part-read-number-end
-    read-number-requires-3
-    three-numbers-requires
-    returns-3)
+    read-number-requires
+    enum-known-p
+    enum-told-3
+    returns-5
+    returns-6)

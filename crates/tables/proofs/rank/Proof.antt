@@ -1,114 +1,70 @@
--- `tables::rank` meets its contract. The invariant: the rank lies in the stretch, or right behind it. Assumes nothing.
+-- `tables::rank` meets its contract: the ends bracket the rank. Assumes nothing.
 use Prim.Native.Nat.{ℕ, _+_, _-_, _≤_, _<_, _/_}
-use mathlib.Core.Path.{_≡_, ap, _∙_}
-use mathlib.Core.Bool.{cond}
+use mathlib.Core.Path.{_≡_}
 use native.Mathlib.Omega.{arith}
-use lib.Dec.{ltb}
-use lib.ListN.{length, take, getD}
+use lib.ListN.{length, take}
 use lib.Seq.{length-take-le, getD-take}
 use Rattle.tables.specs.Table.{rankOf}
-use Rattle.tables.proofs.Laws.{rank-le, scaled-le, rank-half, rank-last}
+use Rattle.tables.proofs.Laws.{rank-up, rank-down, rank-le}
 use Rattle.tables.proofs.rank.Statement.{statement}
 use Rattle.tables.proofs.rank.Tie as tie
-use Rattle.tables.proofs.rank.Reads as reads
-use Rattle.tables.proofs.rank.Lts as lts
-use Rattle.tables.proofs.below.Reads as below-reads
 
 abbrev Inv-loop : tie.InvT-loop
-Inv-loop keys n key base₀ size₀ base size =
-    (1 ≤ size) × (base + size ≤ n) × (base ≤ rankOf key (take n keys)) × (rankOf key (take n keys) ≤ base + size)
+Inv-loop keys n key lo₀ hi₀ lo hi = (lo ≤ rankOf key (take n keys)) × (rankOf key (take n keys) ≤ hi) × (hi ≤ n)
 
 abbrev μ-loop : tie.MeasureT-loop
-μ-loop keys n key base₀ size₀ base size = size
-
-returns : tie.Need-returns Inv-loop μ-loop
-returns c =
-    let a = c .before .before .args in
-    let l : length (take (a .n) (a .keys .now)) ≡ a .n = length-take-le (a .n) (a .keys .now) (omega arith) in
-    omega (arith, rank-le (a .key) (take (a .n) (a .keys .now)))
+μ-loop keys n key lo₀ hi₀ lo hi = hi - lo
 
 loop-holds : tie.Need-loop-holds Inv-loop μ-loop
 loop-holds c =
-    let a = c .before .before .args in
-    let l : length (take (a .n) (a .keys .now)) ≡ a .n = length-take-le (a .n) (a .keys .now) (omega arith) in
-    omega (arith, rank-le (a .key) (take (a .n) (a .keys .now)))
+    let s = c .args in
+    let l : length (take (s .n) (s .keys .now)) ≡ s .n = length-take-le (s .n) (s .keys .now) (c .pre .0) in
+    omega (arith, rank-le (s .key) (take (s .n) (s .keys .now)), l)
 
-add-below : tie.Need-add-below Inv-loop μ-loop
-add-below c = omega arith
+sub-mid : tie.Need-sub-mid Inv-loop μ-loop
+sub-mid c = omega arith
 
-mul-below : tie.Need-mul-below Inv-loop μ-loop
-mul-below c = omega arith
+add-mid : tie.Need-add-mid Inv-loop μ-loop
+add-mid c = omega arith
 
-shared-slice-read-below : tie.Need-shared-slice-read-below Inv-loop μ-loop
-shared-slice-read-below c = omega arith
+mul-if1 : tie.Need-mul-if1 Inv-loop μ-loop
+mul-if1 c = omega arith
 
-below-requires : tie.Need-below-requires Inv-loop μ-loop
-below-requires c κs = tt
+shared-slice-read-if1 : tie.Need-shared-slice-read-if1 Inv-loop μ-loop
+shared-slice-read-if1 c = omega arith
 
-mul-base : tie.Need-mul-base Inv-loop μ-loop
-mul-base c = omega (arith, scaled-le (c .before .before .before .loop .size / 2) (c .below .result) (c .below .ensures .1))
-
-add-base : tie.Need-add-base Inv-loop μ-loop
-add-base c =
-    let o = c .before .before .before in
-    let s = o .before .before .before in
-    let v = o .loop in
-    let t = take (s .args .n) (s .args .keys .now) in
-    let half : ℕ = v .size / 2 in
-    let l : length t ≡ s .args .n = length-take-le (s .args .n) (s .args .keys .now) (s .pre .0) in
-    let h : v .base + half < s .args .n = omega arith in
-    let g = getD-take (s .args .n) (s .args .keys .now) (v .base + half) 0 h in
-    let e : c .below .result ≡ cond (ltb (getD t (v .base + half) 0) (s .args .key)) 1 0 = rw g (c .below .ensures .0) in
-    let r = rank-half (s .args .key) t (v .base) (v .size) half (c .below .result) (s .pre .1) (omega arith) (omega arith) (omega arith)
-    (v .inv .2) (v .inv .3) e in
-    omega (arith, r)
-
-sub-size : tie.Need-sub-size Inv-loop μ-loop
-sub-size c = omega arith
+add-lo : tie.Need-add-lo Inv-loop μ-loop
+add-lo c = omega arith
 
 loop-less : tie.Need-loop-less Inv-loop μ-loop
 loop-less c = omega arith
 
 loop-again : tie.Need-loop-again Inv-loop μ-loop
 loop-again c =
-    let o = c .before .before .before in
-    let s = o .before .before .before in
-    let v = o .loop in
-    let t = take (s .args .n) (s .args .keys .now) in
-    let half : ℕ = v .size / 2 in
-    let l : length t ≡ s .args .n = length-take-le (s .args .n) (s .args .keys .now) (s .pre .0) in
-    let h : v .base + half < s .args .n = omega arith in
-    let g = getD-take (s .args .n) (s .args .keys .now) (v .base + half) 0 h in
-    let e : c .below .result ≡ cond (ltb (getD t (v .base + half) 0) (s .args .key)) 1 0 = rw g (c .below .ensures .0) in
-    let r = rank-half (s .args .key) t (v .base) (v .size) half (c .below .result) (s .pre .1) (omega arith) (omega arith) (omega arith)
-    (v .inv .2) (v .inv .3) e in
-    (omega arith, omega (arith, r .2), r .0, r .1)
+    let s = c .before .before .before .before in
+    let v = c .before .before .before .loop in
+    let a = s .args .keys .now in
+    let m : ℕ = v .lo + (v .hi - v .lo) / 2 in
+    let l : length (take (s .args .n) a) ≡ s .args .n = length-take-le (s .args .n) a (s .pre .0) in
+    let h : m < s .args .n = omega arith in
+    omega
+    (arith, rank-up (s .args .key) (take (s .args .n) a) (s .pre .1) m (omega arith) (rw getD-take (c .if1 .taken)))
 
-mul-below-2 : tie.Need-mul-below-2 Inv-loop μ-loop
-mul-below-2 c = omega arith
+loop-less-2 : tie.Need-loop-less-2 Inv-loop μ-loop
+loop-less-2 c = omega arith
 
-shared-slice-read-below-2 : tie.Need-shared-slice-read-below-2 Inv-loop μ-loop
-shared-slice-read-below-2 c = omega arith
+loop-again-2 : tie.Need-loop-again-2 Inv-loop μ-loop
+loop-again-2 c =
+    let s = c .before .before .before .before in
+    let v = c .before .before .before .loop in
+    let a = s .args .keys .now in
+    let m : ℕ = v .lo + (v .hi - v .lo) / 2 in
+    let l : length (take (s .args .n) a) ≡ s .args .n = length-take-le (s .args .n) a (s .pre .0) in
+    let h : m < s .args .n = omega arith in
+    omega (arith, rank-down (s .args .key) (take (s .args .n) a) m (omega arith) (rw getD-take (c .if1 .left)))
 
-below-requires-2 : tie.Need-below-requires-2 Inv-loop μ-loop
-below-requires-2 c κs = tt
-
-add-result : tie.Need-add-result Inv-loop μ-loop
-add-result c = omega (arith, c .below2 .ensures .1)
-
-returns-2 : tie.Need-returns-2 Inv-loop μ-loop
-returns-2 c =
-    let o = c .before .before .before in
-    let s = o .before .before .before in
-    let v = o .loop in
-    let t = take (s .args .n) (s .args .keys .now) in
-    let l : length t ≡ s .args .n = length-take-le (s .args .n) (s .args .keys .now) (s .pre .0) in
-    let h : v .base < s .args .n = omega arith in
-    let g = getD-take (s .args .n) (s .args .keys .now) (v .base) 0 h in
-    let e : c .below2 .result ≡ cond (ltb (getD t (v .base) 0) (s .args .key)) 1 0 = rw g (c .below2 .ensures .0) in (
-      rank-last (s .args .key) t (v .base) (c .below2 .result) (s .pre .1) (omega arith) (v .inv .2) (omega arith) e,
-      omega (arith, c .below2 .ensures .1),
-    )
+returns : tie.Need-returns Inv-loop μ-loop
+returns c = omega arith
 
 pub rank-spec : {M : Type 1} → statement M
 rank-spec =
@@ -116,19 +72,14 @@ rank-spec =
     (tie.spec
     Inv-loop
     μ-loop
-    returns
     loop-holds
-    add-below
-    mul-below
-    shared-slice-read-below
-    below-requires
-    mul-base
-    add-base
-    sub-size
+    sub-mid
+    add-mid
+    mul-if1
+    shared-slice-read-if1
+    add-lo
     loop-less
     loop-again
-    mul-below-2
-    shared-slice-read-below-2
-    below-requires-2
-    add-result
-    returns-2)
+    loop-less-2
+    loop-again-2
+    returns)

@@ -1,8 +1,7 @@
 -- `steps::reading::read_cue_step` meets its contract: each field in turn ends it or leads to the next. Assumes nothing.
 use mathlib.Core.Path.{sym, ap, _∙_}
 use Rattle.numbers.specs.Number.{numberOf}
-use Rattle.cues.proofs.Laws.{rest-is}
-use Rattle.steps.proofs.Steps.{bad-time, bad-module, bad-pin, three-read}
+use Rattle.steps.proofs.Steps.{rest-is, bad-time, bad-module, bad-pin, three-read}
 use Rattle.steps.proofs.Steps.{field-within, bad-transaction, bad-cue, call-read}
 use borrow.Author.Needs.{needs}
 use Rattle.steps.proofs.reading.read_cue_step.Statement.{statement}

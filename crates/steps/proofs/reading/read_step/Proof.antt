@@ -4,8 +4,7 @@ use native.Mathlib.Omega.{arith}
 use lib.ListN.{length}
 use lib.Seq.{length-take-le}
 use Rattle.lines.specs.Lines.{upTo}
-use Rattle.cues.proofs.Laws.{from-start}
-use Rattle.steps.proofs.Steps.{no-fields, with-number, with-cue, no-step}
+use Rattle.steps.proofs.Steps.{from-start, no-fields, with-number, with-cue, no-step}
 use borrow.Author.Needs.{needs}
 use Rattle.steps.proofs.reading.read_step.Statement.{statement}
 use Rattle.steps.proofs.reading.read_step.Tie as tie
