@@ -1,0 +1,20 @@
+-- The proofs of the theorems in `specs/Theorems.antt`: laws (`Sorted`, `ObjectLaws`, `StoreLaws`, `Accepted`), terms 1
+-- and 2 (`Refusals`, `StepTable`, `Boosting`, `Plain`), term 3 (`Trace`, `Invariant`, `Stepping`, `Recovering`, `Term3`),
+-- what stepping keeps (`Slots`, `Keeping`, `Sound`), and the lock listing (`Listing`).
+pub mod Accepted
+pub mod Boosting
+pub mod Invariant
+pub mod Keeping
+pub mod Listing
+pub mod ObjectLaws
+pub mod Plain
+pub mod Recovering
+pub mod Refusals
+pub mod Slots
+pub mod Sorted
+pub mod Sound
+pub mod StepTable
+pub mod Stepping
+pub mod StoreLaws
+pub mod Term3
+pub mod Trace

@@ -1,0 +1,266 @@
+-- The theorems on what opening, stepping and recovery keep, and that an aborting transaction unwinds in as many steps
+-- as it has entries. Assumes nothing.
+use Prim.Native.Nat.{ℕ, zero, suc, _≤_, _<_, max}
+use mathlib.Core.Path.{_≡_, refl, ap, _∙_}
+use mathlib.Core.Bool.{true}
+use mathlib.Core.List.{List, [], _∷_}
+use mathlib.Core.Option.{Option, none, some}
+use native.Mathlib.Nat.{le-of-suc-le-suc, not-suc-le-zero, suc-max-suc, zero-max}
+use native.Mathlib.Omega.{arith}
+use lib.ListN.{length, replicate}
+use Rattle.refusals.specs.declared.Refusal.{Refusal}
+use Rattle.cues.proofs.Theorems.{key-is-cue-key}
+use Rattle.steps.specs.declared.reading.Step.{Step}
+use Rattle.steps.specs.declared.reading.Step.the-variants.{
+  Begin,
+  Add,
+  Remove,
+  Has,
+  Push,
+  Min,
+  Take,
+  Commit,
+  Abort,
+  RollBack,
+  Malformed,
+}
+use Rattle.steps.specs.Step.{stepOf}
+use Rattle.tables.proofs.Laws.{subset-length}
+use Rattle.scripts.proofs.Theorems.{read-is-sound}
+use Rattle.boosting.specs.Undo.{Entry, inverse}
+use Rattle.boosting.specs.Locks.{Locks}
+use Rattle.boosting.specs.Store.{
+  closed,
+  aborting,
+  Transaction,
+  closedTransaction,
+  Store,
+  started,
+  opened,
+  valid,
+  transaction,
+}
+use Rattle.boosting.specs.Room.{reservedBy, reservedIn, reserved, takesBy, takesIn}
+use Rattle.boosting.specs.Rows.{
+  Action,
+  begin,
+  commit,
+  abort,
+  rollBack,
+  call,
+  Request,
+  malformed,
+  request,
+  requestOf,
+  refusalOf,
+}
+use Rattle.boosting.specs.Step.{unwound, undoNewest, perform, decided, stepOn, stepLine}
+use Rattle.boosting.specs.Run.{Run, advance, runFrom}
+use Rattle.boosting.specs.Recovery.{rollBacks, recoverOne, recover}
+use Rattle.boosting.specs.Sound.{AllSound, Sound}
+use Rattle.boosting.specs.Theorems.{
+  OpenedIsSound,
+  SteppingKeepsSound,
+  RunKeepsSound,
+  RecoveryKeepsSound,
+  SoundHasRoom,
+  AbortingUnwinds,
+}
+use Rattle.boosting.proofs.StoreLaws.{put-same}
+use Rattle.boosting.proofs.Slots.{script-reserved}
+use Rattle.boosting.proofs.Accepted.{accepted-valid, accepted-call, accepts-roll-back}
+use Rattle.boosting.proofs.Keeping.{
+  CallKey,
+  closed-sound,
+  transaction-sound,
+  begin-sound,
+  close-sound,
+  abort-sound,
+  undo-sound,
+  call-sound,
+}
+
+-- ---- opening
+all-closed : (n : ℕ) → AllSound (replicate n closedTransaction)
+all-closed zero = tt
+all-closed (suc n) = (closed-sound, all-closed n)
+
+pub opened-is-sound : OpenedIsSound
+unfolding opened started closedTransaction reservedIn reservedBy takesIn takesBy
+opened-is-sound text =
+    let s = read-is-sound text in
+    record {
+      script-rising = s .rising;
+      script-in-range = s .in-range;
+      queue-rising = tt;
+      queue-in-range = tt;
+      eight = refl;
+      transactions-sound = all-closed 8;
+      script-slots = s .at-most;
+      queue-slots = omega arith;
+    }
+
+-- ---- one step
+
+-- a call whose cue's numbers are in range has the key of a cue
+abbrev pub RequestKey : Request → Type 0
+RequestKey malformed = Unit {0}
+RequestKey (request e begin) = Unit {0}
+RequestKey (request e commit) = Unit {0}
+RequestKey (request e abort) = Unit {0}
+RequestKey (request e rollBack) = Unit {0}
+RequestKey (request e (call b c)) = b ≡ true → CallKey c
+
+pub request-key : (s : Step) → RequestKey (requestOf s)
+request-key (Begin e) = tt
+request-key (Add e n) = key-is-cue-key _
+request-key (Remove e n) = key-is-cue-key _
+request-key (Has e n) = key-is-cue-key _
+request-key (Push e n) = key-is-cue-key _
+request-key (Min e) = λ h. tt
+request-key (Take e) = λ h. tt
+request-key (Commit e) = tt
+request-key (Abort e) = tt
+request-key (RollBack e) = tt
+request-key Malformed = tt
+
+perform-sound : (d : Store) (e : ℕ) (a : Action) → Sound d → RequestKey (request e a)
+    → refusalOf d (request e a) ≡ none → Sound (perform d e a .store)
+unfolding perform
+perform-sound d e begin v k h = begin-sound d e v (accepted-valid d e begin h)
+perform-sound d e commit v k h = close-sound d e v (accepted-valid d e commit h)
+perform-sound d e abort v k h = abort-sound d e v (accepted-valid d e abort h)
+perform-sound d e rollBack v k h = undo-sound d e (transaction d e .log) v (accepted-valid d e rollBack h) refl
+perform-sound d e (call b c) v k h =
+    let g = accepted-call d e b c h in
+    call-sound d e b c v (accepted-valid d e (call b c) h) (k (g .in-range)) g
+
+-- a refused request changes nothing
+pub request-keeps-sound : (d : Store) (q : Request) → Sound d → RequestKey q → Sound (stepOn d q .store)
+unfolding stepOn
+request-keeps-sound d malformed v k = v
+request-keeps-sound d (request e a) v k = go (refusalOf d (request e a)) refl
+  where
+    go : (o : Option Refusal) → refusalOf d (request e a) ≡ o → Sound (decided o d e a .store)
+    go (some r) h = v
+    go none h = perform-sound d e a v k h
+
+pub stepping-keeps-sound : SteppingKeepsSound
+unfolding stepLine
+stepping-keeps-sound d line v = request-keeps-sound d (requestOf (stepOf line)) v (request-key (stepOf line))
+
+-- ---- a run
+from-keeps-sound : (lines : List (List ℕ)) (r : Run) → Sound (r .store) → Sound (runFrom r lines .store)
+unfolding runFrom advance
+from-keeps-sound [] r v = v
+from-keeps-sound (l ∷ lines) r v = from-keeps-sound lines (advance r l) (stepping-keeps-sound (r .store) l v)
+
+pub run-keeps-sound : RunKeepsSound
+run-keeps-sound d lines v = from-keeps-sound lines _ v
+
+-- ---- recovery
+pub rolled-back-sound : (n : ℕ) (d : Store) (e : ℕ) → Sound d → Sound (rollBacks n d e)
+unfolding rollBacks
+rolled-back-sound zero d e v = v
+rolled-back-sound (suc n) d e v =
+    rolled-back-sound n (stepOn d (request e rollBack) .store) e (request-keeps-sound d (request e rollBack) v tt)
+
+pub recovery-keeps-sound : RecoveryKeepsSound
+unfolding recover recoverOne
+recovery-keeps-sound d [] v = v
+recovery-keeps-sound d (e ∷ order) v =
+    recovery-keeps-sound (recoverOne d e) order
+    (rolled-back-sound (suc (length (transaction d e .log))) (stepOn d (request e abort) .store) e
+    (request-keeps-sound d (request e abort) v tt))
+
+-- ---- room
+pub sound-has-room : SoundHasRoom
+sound-has-room d v =
+    let s = d .state .script in
+    let h : length s ≤ length (reserved d) =
+    subset-length s (reserved d) (v .script-rising) (script-reserved d) in (
+      record { rising = v .script-rising; in-range = v .script-in-range; at-most = omega (arith, h, v .script-slots) },
+      omega (arith, v .queue-slots),
+    )
+
+-- ---- unwinding
+-- the rollback steps that a log takes after the first
+abbrev further : List Entry → ℕ
+further [] = 0
+further (n ∷ log) = length log
+
+steps-of : (log : List Entry) → max 1 (length log) ≡ suc (further log)
+steps-of [] = refl
+steps-of (n ∷ log) = suc-max-suc 0 (length log) ∙ ap suc (zero-max (length log))
+
+steps-at-most : (log : List Entry) → length log ≤ 16 → max 1 (length log) ≤ 16
+steps-at-most [] h = omega arith
+steps-at-most (n ∷ log) h = rw (steps-of (n ∷ log)) h
+
+-- what a rollback step leaves of the transaction
+abbrev left : List Entry → Locks → Transaction
+left [] l = closedTransaction
+left (n ∷ log) l = unwound log l
+
+rolled-back : (d : Store) (e : ℕ) → Sound d → valid e ≡ true → transaction d e .standing ≡ aborting
+    → transaction (stepOn d (request e rollBack) .store) e ≡ left (transaction d e .log) (transaction d e .locks)
+unfolding stepOn perform
+rolled-back d e v h a = rw (accepts-roll-back d e h a) (go (transaction d e .log))
+  where
+    go : (log : List Entry) → transaction (undoNewest d e log .store) e ≡ left log (transaction d e .locks)
+    go [] = put-same d (d .state) e closedTransaction (v .eight) h
+    go (n ∷ log) = put-same d (inverse n (d .state)) e (unwound log (transaction d e .locks)) (v .eight) h
+
+-- it closes if there is no further step; or else it is aborting with one step fewer to take
+closed-left : (log : List Entry) (l : Locks) → further log ≡ 0 → left log l .standing ≡ closed
+unfolding closedTransaction
+closed-left [] l h = refl
+closed-left (n ∷ []) l h = refl
+closed-left (n ∷ m ∷ log) l h = absurd (omega arith)
+
+aborting-left : (log : List Entry) (l : Locks) (m : ℕ) → further log ≡ suc m
+    → (left log l .standing ≡ aborting) × (further (left log l .log) ≡ m)
+aborting-left [] l m h = absurd (omega arith)
+aborting-left (n ∷ []) l m h = absurd (omega arith)
+aborting-left (n ∷ k ∷ log) l m h = (refl, omega arith)
+
+-- an aborting transaction that takes so many steps after the first
+record Aborting (d : Store) (e m : ℕ) : Type 0 where
+  pub sound : Sound d
+  pub standing : transaction d e .standing ≡ aborting
+  pub steps : further (transaction d e .log) ≡ m
+
+module _ (e : ℕ) (h : valid e ≡ true) where
+  one-fewer : (d : Store) (m : ℕ) → Aborting d e (suc m) → Aborting (stepOn d (request e rollBack) .store) e m
+  one-fewer d m a =
+      let r = rolled-back d e (a .sound) h (a .standing) in
+      let n = aborting-left (transaction d e .log) (transaction d e .locks) m (a .steps) in
+      record {
+        sound = request-keeps-sound d (request e rollBack) (a .sound) tt;
+        standing = ap (λ (t : Transaction). t .standing) r ∙ n .0;
+        steps = ap (λ (t : Transaction). further (t .log)) r ∙ n .1;
+      }
+
+  closes : (m : ℕ) (d : Store) → Aborting d e m → transaction (rollBacks (suc m) d e) e .standing ≡ closed
+  unfolding rollBacks
+  closes zero d a =
+      ap (λ (t : Transaction). t .standing) (rolled-back d e (a .sound) h (a .standing))
+      ∙ closed-left (transaction d e .log) (transaction d e .locks) (a .steps)
+  closes (suc m) d a = closes m (stepOn d (request e rollBack) .store) (one-fewer d m a)
+
+  stays : (n m : ℕ) (d : Store) → n < suc m → Aborting d e m → transaction (rollBacks n d e) e .standing ≡ aborting
+  unfolding rollBacks
+  stays zero m d b a = a .standing
+  stays (suc n) zero d b a = absurd (not-suc-le-zero (le-of-suc-le-suc b))
+  stays (suc n) (suc m) d b a = stays n m (stepOn d (request e rollBack) .store) (le-of-suc-le-suc b) (one-fewer d m a)
+
+pub aborting-unwinds : AbortingUnwinds
+aborting-unwinds d e v h a =
+    let m = further (transaction d e .log) in
+    let q = steps-of (transaction d e .log) in
+    let g : Aborting d e m = record { sound = v; standing = a; steps = refl } in
+    record {
+      then = rw q (closes e h m d g);
+      before = λ n b. stays e h n m d (rw q at b) g;
+      at-most = steps-at-most (transaction d e .log) (transaction-sound d e v .log-at-most);
+    }

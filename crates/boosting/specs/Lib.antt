@@ -1,0 +1,14 @@
+-- The model of the desk, in reading order.
+pub mod Object
+pub mod Undo
+pub mod Locks
+pub mod Store
+pub mod Room
+pub mod Rows
+pub mod Step
+pub mod Run
+pub mod Recovery
+pub mod Replay
+pub mod Listing
+pub mod Sound
+pub mod Theorems

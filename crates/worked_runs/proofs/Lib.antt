@@ -1,0 +1,2 @@
+-- The worked steps, computed.
+pub mod Worked
