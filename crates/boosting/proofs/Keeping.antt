@@ -155,6 +155,7 @@ lock-held min l g f s = mode-held l (hold lookMode l) refl s
 lock-held take l g f s = mode-held l (hold takeMode l) refl s
 
 -- ---- the log with one entry more
+
 noted-at-most : (n : Option Entry) (log : List Entry) → logFull n log ≡ false → length log ≤ 16
     → length (noted n log) ≤ 16
 noted-at-most none log f h = h
@@ -165,6 +166,7 @@ noted-in-range none log g a = a
 noted-in-range (some n) log g a = (g, a)
 
 -- ---- states
+
 pub record SoundState (s : State) : Type 0 where
   pub script-rising : Ordered 1 (s .script)
   pub script-in-range : AllCues (s .script)
@@ -250,6 +252,7 @@ inverse-sound (pushed k) s g v =
 inverse-sound (taken k) s g v = pushed-state k s g v
 
 -- ---- transactions
+
 not-closed : (s : Standing) → s ≡ closed → isClosed s ≡ false → ⊥
 not-closed s e n = let z : _≡_ {A = ℕ} 0 1 = cc in omega arith
 
@@ -350,6 +353,7 @@ as-before d e s log v f g h = record {
 }
 
 -- ---- beginning, closing and aborting: the state stays
+
 empty-fits : (d : Store) (e : ℕ) → Sound d → Fits d e (d .state) []
 unfolding named takesBy
 empty-fits d e v =
@@ -374,6 +378,7 @@ module _ (d : Store) (e : ℕ) (v : Sound d) (h : valid e ≡ true) where
       (as-before d e (d .state) (t .log) v (script-reserved d) (λ x m. m) (omega (arith, v .queue-slots)))
 
 -- ---- a rollback step
+
 member-delete : (x k : ℕ) (l : List ℕ) → memberOf x (deleteOf k l) ≡ true → memberOf x l ≡ true
 unfolding memberOf deleteOf
 member-delete x k [] m = m

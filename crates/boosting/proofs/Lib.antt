@@ -1,6 +1,6 @@
--- The proofs of the theorems in `specs/Theorems.antt`: laws (`Sorted`, `ObjectLaws`, `StoreLaws`, `Accepted`), terms 1
--- and 2 (`Refusals`, `StepTable`, `Boosting`, `Plain`), term 3 (`Trace`, `Invariant`, `Stepping`, `Recovering`, `Term3`),
--- what stepping keeps (`Slots`, `Keeping`, `Sound`), and the lock listing (`Listing`).
+-- The proofs. `Theorems` lists what is proved; the rest is how: laws (`Sorted`, `ObjectLaws`, `StoreLaws`, `Accepted`),
+-- terms 1 and 2 (`Refusals`, `StepTable`, `Boosting`, `Plain`), term 3 (`Trace`, `Invariant`, `Stepping`, `Unwinding`,
+-- `Recovering`, `Term3`), what stepping keeps (`Slots`, `Keeping`, `Sound`), and the lock listing (`Listing`).
 pub mod Accepted
 pub mod Boosting
 pub mod Invariant
@@ -17,4 +17,6 @@ pub mod StepTable
 pub mod Stepping
 pub mod StoreLaws
 pub mod Term3
+pub mod Theorems
 pub mod Trace
+pub mod Unwinding

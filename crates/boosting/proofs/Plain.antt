@@ -1,5 +1,5 @@
 -- The plain meaning of the sorted lists: a set, and a collection whose first cue is the least. Assumes nothing.
-use Prim.Native.Nat.{ℕ, suc, _+_}
+use Prim.Native.Nat.{ℕ, suc, _+_, _≤_}
 use mathlib.Core.Path.{_≡_, refl}
 use mathlib.Core.Bool.{Bool, true, false, cond, not, _&&_}
 use mathlib.Core.List.{List, [], _∷_}
@@ -8,7 +8,8 @@ use lib.Dec.{eqb, ltb}
 use borrow.Author.Tests.{eqb-true, eqb-false, ne-eqb}
 use Rattle.tables.specs.Table.{Ordered, memberOf, insertOf, deleteOf}
 use Rattle.tables.proofs.Laws.{split, member-once, member-delete-other, member-from}
-use Rattle.boosting.specs.Theorems.{countOf, PlainMeaning}
+use Rattle.boosting.specs.Object.{isCue, least, effect, reply}
+use Rattle.boosting.specs.Theorems.{countOf, PlainMeaning, CallsArePlain}
 use Rattle.boosting.proofs.Sorted.{member-delete-self}
 
 remove-member : (j k : ℕ) (x : List ℕ) → Ordered 1 x → memberOf j (deleteOf k x) ≡ (not (eqb k j) && memberOf j x)
@@ -71,4 +72,24 @@ plain-meaning = record {
   undo-push-count = undo-push-count;
   member-count = member-count;
   least = λ j k q o m. omega (arith, member-from (k + 0) j q (o .0) m);
+}
+
+-- ---- the calls
+least-is : (k : ℕ) (q : List ℕ) → least q ≡ isCue k → (j : ℕ) → Ordered 0 q → memberOf j q ≡ true → k ≤ j
+unfolding memberOf
+least-is k [] e j o m = let z : _≡_ {A = ℕ} 0 1 = cc in absurd (omega arith)
+least-is k (x ∷ q) e j o m =
+    let p : x ≡ k = cc in
+    split (eqb x j) (λ t. omega (arith, eqb-true x j t)) (λ t. omega (arith, member-from (x + 0) j q (o .0) (rw t at m)))
+
+pub calls-are-plain : CallsArePlain
+unfolding effect reply
+calls-are-plain s r o = record {
+  add-set = λ j k. member-once j k (s .script);
+  remove-set = λ j k. remove-member j k (s .script) r;
+  push-one-more = λ j k. push-count j k (s .queue);
+  take-one = λ j k q e. rw e (take-count j k q);
+  least-found = λ j k e m. least-is k (s .queue) e j o m;
+  min-is-take = refl;
+  looks-change-nothing = λ k. (refl, refl);
 }

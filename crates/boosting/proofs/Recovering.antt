@@ -1,18 +1,15 @@
 -- Recovery keeps the invariant with the same settled calls, leaves closed transactions closed, and closes each
--- transaction that it is told to recover: an abort leaves none open, and each rollback step closes it or takes one
--- entry off its log. Assumes nothing.
-use Prim.Native.Nat.{ℕ, zero, suc, _≤_, _<_}
+-- transaction that it is told to recover: an abort leaves it not open, and rollback steps close it. Assumes nothing.
+use Prim.Native.Nat.{ℕ, zero, suc, _≤_}
 use mathlib.Core.Path.{_≡_, refl, ap}
 use mathlib.Core.Bool.{Bool, true, false}
 use mathlib.Core.List.{List, [], _∷_}
-use mathlib.Core.Logic.{_⊎_, inl, inr}
 use mathlib.Core.Option.{Option, none, some}
 use native.Mathlib.Omega.{arith}
 use lib.ListN.{length, getD, List·getD-eq-default}
 use Rattle.refusals.specs.declared.Refusal.{Refusal}
 use Rattle.tables.specs.Table.{memberOf}
 use Rattle.boosting.specs.Object.{State}
-use Rattle.boosting.specs.Undo.{Entry, inverse}
 use Rattle.boosting.specs.Store.{
   Standing,
   closed,
@@ -24,34 +21,19 @@ use Rattle.boosting.specs.Store.{
   valid,
   transaction,
 }
-use Rattle.boosting.specs.Rows.{Action, begin, commit, abort, rollBack, call, request, refusalOf}
-use Rattle.boosting.specs.Step.{accept, undoNewest, aborted, perform, stepOn}
+use Rattle.boosting.specs.Rows.{Action, abort, rollBack, request, refusalOf}
+use Rattle.boosting.specs.Step.{aborted, perform, stepOn}
 use Rattle.boosting.specs.Recovery.{rollBacks, recoverOne, recover}
 use Rattle.boosting.proofs.Sorted.{EqNe, eq, ne, eq-ne, LeGt, le, gt, le-gt, never, member-nil, member-ne}
 use Rattle.boosting.proofs.ObjectLaws.{Good}
 use Rattle.boosting.proofs.Trace.{Item}
-use Rattle.boosting.proofs.StoreLaws.{
-  range-valid,
-  put-other,
-  changed,
-  closed-standing,
-  open-unclosed,
-  aborting-unclosed,
-}
+use Rattle.boosting.proofs.StoreLaws.{range-valid, changed, open-unclosed, aborting-unclosed}
 use Rattle.boosting.proofs.Invariant.{Invariant}
-use Rattle.boosting.proofs.Accepted.{
-  Accepts,
-  asks,
-  accepted-valid,
-  accepted-standing,
-  step-refused,
-  step-accepted,
-  accepts-abort,
-  accepts-roll-back,
-}
+use Rattle.boosting.proofs.Accepted.{Accepts, asks, accepted-valid, step-refused, step-accepted, accepts-abort}
+use Rattle.boosting.proofs.Unwinding.{rolledBack, Closed, step-stays, further, further-at-most, closes}
 use Rattle.boosting.proofs.Stepping.{perform-keeps}
 
--- ---- numbers out of range, and transactions that a step does not name
+-- ---- numbers out of range
 
 pub invalid-closed : (d : Store) (e : ℕ) → length (d .transactions) ≡ 8 → valid e ≡ false
     → transaction d e .standing ≡ closed
@@ -73,41 +55,10 @@ unclosed-valid d e l n = go (valid e) refl
     go true h = h
     go false h = absurd (n (invalid-closed d e l h))
 
-undo-other : (d : Store) (e f : ℕ) (log : List Entry) → (f ≡ e → ⊥)
-    → transaction (undoNewest d e log .store) f ≡ transaction d f
-undo-other d e f [] n = put-other d _ e f _ n
-undo-other d e f (m ∷ log) n = put-other d _ e f _ n
-
-pub perform-other : (d : Store) (e f : ℕ) (a : Action) → (f ≡ e → ⊥)
-    → transaction (perform d e a .store) f ≡ transaction d f
-unfolding perform accept
-perform-other d e f begin n = put-other d _ e f _ n
-perform-other d e f commit n = put-other d _ e f _ n
-perform-other d e f abort n = put-other d _ e f _ n
-perform-other d e f rollBack n = undo-other d e f (transaction d e .log) n
-perform-other d e f (call b c) n = put-other d _ e f _ n
-
 -- ---- an abort and a rollback step
 
 abbrev abortedAt : Store → ℕ → Store
 abortedAt d e = stepOn d (request e abort) .store
-
-abbrev rolledBack : Store → ℕ → Store
-rolledBack d e = stepOn d (request e rollBack) .store
-
-abbrev Closed : Store → ℕ → Type 0
-Closed d f = transaction d f .standing ≡ closed
-
--- a step that asks for an unclosed transaction leaves closed ones closed
-step-stays : (d : Store) (e : ℕ) (a : Action) → (asks a ≡ closed → ⊥) → (f : ℕ) → Closed d f
-    → Closed (stepOn d (request e a) .store) f
-step-stays d e a n f s = go (refusalOf d (request e a)) refl
-  where
-    go : (o : Option Refusal) → refusalOf d (request e a) ≡ o → Closed (stepOn d (request e a) .store) f
-    go (some r) h = rw (step-refused d (request e a) r h) s
-    go none h =
-        let m : f ≡ e → ⊥ = λ q. n (cc (accepted-standing d e a h)) in
-        rw (step-accepted d e a h, perform-other d e f a m) s
 
 -- d′ comes from d by steps that the replay does not see: the invariant holds, and closed transactions stay closed
 pub record After (start : State) (pending : ℕ → List Item) (settled : List Item) (d d′ : Store) : Type 0 where
@@ -168,29 +119,6 @@ module _ (start : State) (g : Good start) (pending : ℕ → List Item) (settled
             rw (step-accepted d e abort h, abortedAt, new)
             ((λ s. let z : _≡_ {A = ℕ} 0 1 = cc in omega arith), refl)
 
-    -- a rollback step of an aborting transaction closes it, or takes one entry off
-    abbrev Shorter : Store → ℕ → Type 0
-    Shorter d n =
-        Closed d e ⊎ ((transaction d e .standing ≡ aborting) × (length (transaction d e .log) ≤ n) × (0 < n))
-
-    undo-shorter : (d : Store) → length (d .transactions) ≡ 8 → valid e ≡ true → (log : List Entry) (n : ℕ)
-        → length log ≤ suc n → Shorter (undoNewest d e log .store) n
-    undo-shorter d l ok [] n h = inl (cc (changed d (d .state) e closedTransaction l ok .new, closed-standing))
-    undo-shorter d l ok (a ∷ []) n h =
-        inl (cc (changed d (inverse a (d .state)) e closedTransaction l ok .new, closed-standing))
-    undo-shorter d l ok (a ∷ b ∷ bs) n h =
-        let x : Transaction = record { standing = aborting; locks = transaction d e .locks; log = b ∷ bs } in
-        let new = changed d (inverse a (d .state)) e x l ok .new in
-        inr (cc, rw new (omega arith), omega arith)
-
-    roll-back-shorter : (d : Store) → Inv d → transaction d e .standing ≡ aborting → (n : ℕ)
-        → length (transaction d e .log) ≤ suc n → Shorter (rolledBack d e) n
-    unfolding perform
-    roll-back-shorter d v s n h =
-        let ok = unclosed-valid d e (v .eight) (aborting-unclosed (transaction d e .standing) s) in
-        rw (step-accepted d e rollBack (accepts-roll-back d e ok s), rolledBack)
-        (undo-shorter d (v .eight) ok (transaction d e .log) n h)
-
     -- ---- recovery of one transaction
 
     after-rolls : (n : ℕ) (d : Store) → Inv d → Next d (rollBacks n d e)
@@ -199,33 +127,6 @@ module _ (start : State) (g : Good start) (pending : ℕ → List Item) (settled
     after-rolls (suc n) d v =
         let a = after-roll-back d v in
         after-both d (rolledBack d e) (rollBacks n (rolledBack d e) e) a (after-rolls n (rolledBack d e) (a .kept))
-
-    rolls-more : (n : ℕ) (d : Store) → rollBacks (suc n) d e ≡ rollBacks n (rolledBack d e) e
-    unfolding rollBacks
-    rolls-more n d = refl
-
-    -- one rollback step and then n, if those close what the one leaves
-    one-more : (n m : ℕ) (d : Store) → Inv d → Unopen d → length (transaction d e .log) ≤ suc m
-        → (0 < m → Unopen (rolledBack d e) → length (transaction (rolledBack d e) e .log) ≤ m
-        → Closed (rollBacks n (rolledBack d e) e) e)
-        → Closed (rollBacks (suc n) d e) e
-    one-more n m d v u h rest = go (transaction d e .standing) refl
-      where
-        left : Shorter (rolledBack d e) m → Closed (rollBacks n (rolledBack d e) e) e
-        left (inl z) = after-rolls n (rolledBack d e) (after-roll-back d v .kept) .stay e z
-        left (inr z) = rest (z .2) (λ w. let o : _≡_ {A = ℕ} 0 1 = cc (z .0) in omega arith) (z .1)
-
-        go : (s : Standing) → transaction d e .standing ≡ s → Closed (rollBacks (suc n) d e) e
-        go closed q = after-rolls (suc n) d v .stay e q
-        go «open» q = absurd (u q)
-        go aborting q = rw (rolls-more n d) (left (roll-back-shorter d v q m h))
-
-    rolls-close : (n : ℕ) (d : Store) → Inv d → Unopen d → length (transaction d e .log) ≤ n
-        → Closed (rollBacks (suc n) d e) e
-    rolls-close zero d v u h = one-more zero zero d v u (omega arith) (λ p w k. absurd (omega (arith, p)))
-    rolls-close (suc n) d v u h =
-        one-more (suc n) n d v u h
-        (λ p w k. rolls-close n (rolledBack d e) (after-roll-back d v .kept) w k)
 
     after-one : (d : Store) → Inv d → Next d (recoverOne d e)
     unfolding recoverOne
@@ -236,10 +137,23 @@ module _ (start : State) (g : Good start) (pending : ℕ → List Item) (settled
 
     one-closes : (d : Store) → Inv d → Closed (recoverOne d e) e
     unfolding recoverOne
-    one-closes d v =
-        let u = abort-not-open d v in
-        rolls-close (length (transaction d e .log)) (abortedAt d e) (after-abort d v .kept) (u .0)
-        (rw (u .1) (omega arith))
+    one-closes d v = go (transaction (abortedAt d e) e .standing) refl
+      where
+        n : ℕ
+        n = length (transaction d e .log)
+
+        w : Inv (abortedAt d e)
+        w = after-abort d v .kept
+
+        go : (s : Standing) → transaction (abortedAt d e) e .standing ≡ s
+            → Closed (rollBacks (suc n) (abortedAt d e) e) e
+        go closed q = after-rolls (suc n) (abortedAt d e) w .stay e q
+        go «open» q = absurd (abort-not-open d v .0 q)
+        go aborting q =
+            let log = transaction (abortedAt d e) e .log in
+            let ok = unclosed-valid (abortedAt d e) e (w .eight) (aborting-unclosed _ q) in
+            let m : further log ≤ n = rw (← abort-not-open d v .1) (further-at-most log) in
+            closes e ok n (further log) (abortedAt d e) m (record { eight = w .eight; standing = q; steps = refl })
 
   -- ---- recovery of all
 

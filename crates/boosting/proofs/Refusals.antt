@@ -88,7 +88,7 @@ unfolding perform accept
 perform-accepted d e begin = refl
 perform-accepted d e commit = refl
 perform-accepted d e abort = refl
-perform-accepted d e rollBack = undo-accepted d e (transaction d e .log)
+perform-accepted d e rollBack = rw undo-accepted
 perform-accepted d e (call b c) = reply-not-refused (reply c (d .state))
 
 -- a step is answered by no refusal exactly when it meets no row

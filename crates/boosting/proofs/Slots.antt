@@ -19,6 +19,7 @@ use Rattle.boosting.specs.Room.{reservedBy, reservedIn, reserved, takesB
 use Rattle.boosting.proofs.StoreLaws.{not-zero, place-below}
 
 -- ---- either of two tests
+
 pub or-case {ℓ} : {P : Type ℓ} (a b : Bool) → (a || b) ≡ true → (a ≡ true → P) → (b ≡ true → P) → P
 or-case true b h f g = f refl
 or-case false b h f g = g h
@@ -80,6 +81,7 @@ in-ordered [] l o = o
 in-ordered (t ∷ ts) l o = by-ordered (t .log) (reservedIn ts l) (in-ordered ts l o)
 
 -- ---- one transaction put anew
+
 pub named-set : (x : ℕ) (ts : List Transaction) (i : ℕ) (t : Transaction) → namedIn x (set ts i t) ≡ true
     → (named x (t .log) ≡ true) ⊎ (namedIn x ts ≡ true)
 unfolding namedIn

@@ -1,11 +1,11 @@
 -- The theorems on what opening, stepping and recovery keep, and that an aborting transaction unwinds in as many steps
 -- as it has entries. Assumes nothing.
-use Prim.Native.Nat.{ℕ, zero, suc, _≤_, _<_, max}
+use Prim.Native.Nat.{ℕ, zero, suc, _≤_, max}
 use mathlib.Core.Path.{_≡_, refl, ap, _∙_}
 use mathlib.Core.Bool.{true}
 use mathlib.Core.List.{List, [], _∷_}
 use mathlib.Core.Option.{Option, none, some}
-use native.Mathlib.Nat.{le-of-suc-le-suc, not-suc-le-zero, suc-max-suc, zero-max}
+use native.Mathlib.Nat.{suc-max-suc, zero-max}
 use native.Mathlib.Omega.{arith}
 use lib.ListN.{length, replicate}
 use Rattle.refusals.specs.declared.Refusal.{Refusal}
@@ -27,19 +27,8 @@ use Rattle.steps.specs.declared.reading.Step.the-variants.{
 use Rattle.steps.specs.Step.{stepOf}
 use Rattle.tables.proofs.Laws.{subset-length}
 use Rattle.scripts.proofs.Theorems.{read-is-sound}
-use Rattle.boosting.specs.Undo.{Entry, inverse}
-use Rattle.boosting.specs.Locks.{Locks}
-use Rattle.boosting.specs.Store.{
-  closed,
-  aborting,
-  Transaction,
-  closedTransaction,
-  Store,
-  started,
-  opened,
-  valid,
-  transaction,
-}
+use Rattle.boosting.specs.Undo.{Entry}
+use Rattle.boosting.specs.Store.{closedTransaction, Store, started, opened, transaction}
 use Rattle.boosting.specs.Room.{reservedBy, reservedIn, reserved, takesBy, takesIn}
 use Rattle.boosting.specs.Rows.{
   Action,
@@ -54,7 +43,7 @@ use Rattle.boosting.specs.Rows.{
   requestOf,
   refusalOf,
 }
-use Rattle.boosting.specs.Step.{unwound, undoNewest, perform, decided, stepOn, stepLine}
+use Rattle.boosting.specs.Step.{perform, decided, stepOn, stepLine}
 use Rattle.boosting.specs.Run.{Run, advance, runFrom}
 use Rattle.boosting.specs.Recovery.{rollBacks, recoverOne, recover}
 use Rattle.boosting.specs.Sound.{AllSound, Sound}
@@ -66,9 +55,9 @@ use Rattle.boosting.specs.Theorems.{
   SoundHasRoom,
   AbortingUnwinds,
 }
-use Rattle.boosting.proofs.StoreLaws.{put-same}
 use Rattle.boosting.proofs.Slots.{script-reserved}
-use Rattle.boosting.proofs.Accepted.{accepted-valid, accepted-call, accepts-roll-back}
+use Rattle.boosting.proofs.Accepted.{accepted-valid, accepted-call}
+use Rattle.boosting.proofs.Unwinding.{further, Aborting, closes, stays}
 use Rattle.boosting.proofs.Keeping.{
   CallKey,
   closed-sound,
@@ -81,6 +70,7 @@ use Rattle.boosting.proofs.Keeping.{
 }
 
 -- ---- opening
+
 all-closed : (n : ℕ) → AllSound (replicate n closedTransaction)
 all-closed zero = tt
 all-closed (suc n) = (closed-sound, all-closed n)
@@ -150,6 +140,7 @@ unfolding stepLine
 stepping-keeps-sound d line v = request-keeps-sound d (requestOf (stepOf line)) v (request-key (stepOf line))
 
 -- ---- a run
+
 from-keeps-sound : (lines : List (List ℕ)) (r : Run) → Sound (r .store) → Sound (runFrom r lines .store)
 unfolding runFrom advance
 from-keeps-sound [] r v = v
@@ -159,6 +150,7 @@ pub run-keeps-sound : RunKeepsSound
 run-keeps-sound d lines v = from-keeps-sound lines _ v
 
 -- ---- recovery
+
 pub rolled-back-sound : (n : ℕ) (d : Store) (e : ℕ) → Sound d → Sound (rollBacks n d e)
 unfolding rollBacks
 rolled-back-sound zero d e v = v
@@ -174,6 +166,7 @@ recovery-keeps-sound d (e ∷ order) v =
     (request-keeps-sound d (request e abort) v tt))
 
 -- ---- room
+
 pub sound-has-room : SoundHasRoom
 sound-has-room d v =
     let s = d .state .script in
@@ -184,10 +177,6 @@ sound-has-room d v =
     )
 
 -- ---- unwinding
--- the rollback steps that a log takes after the first
-abbrev further : List Entry → ℕ
-further [] = 0
-further (n ∷ log) = length log
 
 steps-of : (log : List Entry) → max 1 (length log) ≡ suc (further log)
 steps-of [] = refl
@@ -197,70 +186,13 @@ steps-at-most : (log : List Entry) → length log ≤ 16 → max 1 (length log) 
 steps-at-most [] h = omega arith
 steps-at-most (n ∷ log) h = rw (steps-of (n ∷ log)) h
 
--- what a rollback step leaves of the transaction
-abbrev left : List Entry → Locks → Transaction
-left [] l = closedTransaction
-left (n ∷ log) l = unwound log l
-
-rolled-back : (d : Store) (e : ℕ) → Sound d → valid e ≡ true → transaction d e .standing ≡ aborting
-    → transaction (stepOn d (request e rollBack) .store) e ≡ left (transaction d e .log) (transaction d e .locks)
-unfolding stepOn perform
-rolled-back d e v h a = rw (accepts-roll-back d e h a) (go (transaction d e .log))
-  where
-    go : (log : List Entry) → transaction (undoNewest d e log .store) e ≡ left log (transaction d e .locks)
-    go [] = put-same d (d .state) e closedTransaction (v .eight) h
-    go (n ∷ log) = put-same d (inverse n (d .state)) e (unwound log (transaction d e .locks)) (v .eight) h
-
--- it closes if there is no further step; or else it is aborting with one step fewer to take
-closed-left : (log : List Entry) (l : Locks) → further log ≡ 0 → left log l .standing ≡ closed
-unfolding closedTransaction
-closed-left [] l h = refl
-closed-left (n ∷ []) l h = refl
-closed-left (n ∷ m ∷ log) l h = absurd (omega arith)
-
-aborting-left : (log : List Entry) (l : Locks) (m : ℕ) → further log ≡ suc m
-    → (left log l .standing ≡ aborting) × (further (left log l .log) ≡ m)
-aborting-left [] l m h = absurd (omega arith)
-aborting-left (n ∷ []) l m h = absurd (omega arith)
-aborting-left (n ∷ k ∷ log) l m h = (refl, omega arith)
-
--- an aborting transaction that takes so many steps after the first
-record Aborting (d : Store) (e m : ℕ) : Type 0 where
-  pub sound : Sound d
-  pub standing : transaction d e .standing ≡ aborting
-  pub steps : further (transaction d e .log) ≡ m
-
-module _ (e : ℕ) (h : valid e ≡ true) where
-  one-fewer : (d : Store) (m : ℕ) → Aborting d e (suc m) → Aborting (stepOn d (request e rollBack) .store) e m
-  one-fewer d m a =
-      let r = rolled-back d e (a .sound) h (a .standing) in
-      let n = aborting-left (transaction d e .log) (transaction d e .locks) m (a .steps) in
-      record {
-        sound = request-keeps-sound d (request e rollBack) (a .sound) tt;
-        standing = ap (λ (t : Transaction). t .standing) r ∙ n .0;
-        steps = ap (λ (t : Transaction). further (t .log)) r ∙ n .1;
-      }
-
-  closes : (m : ℕ) (d : Store) → Aborting d e m → transaction (rollBacks (suc m) d e) e .standing ≡ closed
-  unfolding rollBacks
-  closes zero d a =
-      ap (λ (t : Transaction). t .standing) (rolled-back d e (a .sound) h (a .standing))
-      ∙ closed-left (transaction d e .log) (transaction d e .locks) (a .steps)
-  closes (suc m) d a = closes m (stepOn d (request e rollBack) .store) (one-fewer d m a)
-
-  stays : (n m : ℕ) (d : Store) → n < suc m → Aborting d e m → transaction (rollBacks n d e) e .standing ≡ aborting
-  unfolding rollBacks
-  stays zero m d b a = a .standing
-  stays (suc n) zero d b a = absurd (not-suc-le-zero (le-of-suc-le-suc b))
-  stays (suc n) (suc m) d b a = stays n m (stepOn d (request e rollBack) .store) (le-of-suc-le-suc b) (one-fewer d m a)
-
 pub aborting-unwinds : AbortingUnwinds
 aborting-unwinds d e v h a =
     let m = further (transaction d e .log) in
     let q = steps-of (transaction d e .log) in
-    let g : Aborting d e m = record { sound = v; standing = a; steps = refl } in
+    let g : Aborting d e m = record { eight = v .eight; standing = a; steps = refl } in
     record {
-      then = rw q (closes e h m d g);
+      then = rw q (closes e h m m d (omega arith) g);
       before = λ n b. stays e h n m d (rw q at b) g;
       at-most = steps-at-most (transaction d e .log) (transaction-sound d e v .log-at-most);
     }

@@ -104,6 +104,7 @@ abbrev pub when : Bool → Refusal → Option Refusal
 when true r = some r
 when false r = none
 
+-- row 8 names the transaction in the way
 abbrev pub blockedBy : Option ℕ → Option Refusal
 blockedBy none = none
 blockedBy (some f) = some (Blocked f)

@@ -1,5 +1,5 @@
--- The three terms of acceptance, and what stepping keeps, as theorems about the model; proved in `proofs/`.
--- Assumes nothing.
+-- The three terms of acceptance, what stepping keeps, and the lock listing, as theorems about the model; proved in
+-- `proofs/Theorems.antt`. Assumes nothing.
 use Prim.Native.Nat.{ℕ, suc, _≤_, _<_, max}
 use mathlib.Core.Path.{_≡_}
 use mathlib.Core.Bool.{Bool, true, false, cond, not, _&&_, _||_}
@@ -19,7 +19,7 @@ use Rattle.tables.specs.Table.{Ordered, memberOf, insertOf, deleteOf, putOnceOf
 use Rattle.scripts.specs.declared.reading.Outcome.the-variants.{Accepted}
 use Rattle.scripts.specs.Script.{scriptOf}
 use Rattle.scripts.specs.Theorems.{SoundScript}
-use Rattle.boosting.specs.Object.{Call, State, effect, reply, answerOf}
+use Rattle.boosting.specs.Object.{Call, add, remove, has, push, min, take, isCue, State, effect, reply, answerOf}
 use Rattle.boosting.specs.Undo.{Entry, entryOf, inverse, noted}
 use Rattle.boosting.specs.Locks.{Lock, lockOf, hold, holds, conflicts}
 use Rattle.boosting.specs.Store.{
@@ -166,6 +166,23 @@ pub record PlainMeaning : Type 0 where
       → countOf j q ≡ cond (eqb k j) (suc (countOf j (deleteOf k q))) (countOf j (deleteOf k q))
   pub member-count : (k : ℕ) (q : List ℕ) → memberOf k q ≡ not (eqb (countOf k q) 0)
   pub least : (j k : ℕ) (q : List ℕ) → Ordered 0 (k ∷ q) → memberOf j q ≡ true → k ≤ j
+
+-- so the calls are those of a set and a collection: what each changes, and what `min` and `take` find
+pub record PlainCalls (s : State) : Type 0 where
+  pub add-set : (j k : ℕ) → memberOf j (effect (add k) s .script) ≡ (eqb k j || memberOf j (s .script))
+  pub remove-set : (j k : ℕ) → memberOf j (effect (remove k) s .script) ≡ (not (eqb k j) && memberOf j (s .script))
+  pub push-one-more :
+      (j k : ℕ)
+      → countOf j (effect (push k) s .queue) ≡ cond (eqb k j) (suc (countOf j (s .queue))) (countOf j (s .queue))
+  pub take-one :
+      (j k : ℕ) (q : List ℕ) → s .queue ≡ k ∷ q
+      → countOf j (s .queue) ≡ cond (eqb k j) (suc (countOf j (effect take s .queue))) (countOf j (effect take s .queue))
+  pub least-found : (j k : ℕ) → reply take s ≡ isCue k → memberOf j (s .queue) ≡ true → k ≤ j
+  pub min-is-take : reply min s ≡ reply take s
+  pub looks-change-nothing : (k : ℕ) → (effect (has k) s ≡ s) × (effect min s ≡ s)
+
+abbrev pub CallsArePlain : Type 0
+CallsArePlain = (s : State) → Ordered 1 (s .script) → Ordered 0 (s .queue) → PlainCalls s
 
 -- ---- term 3: the replay
 

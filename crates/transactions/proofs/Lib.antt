@@ -1,0 +1,6 @@
+-- Laws of the words, by what they show.
+pub mod Words
+pub mod Standings
+pub mod Locks
+pub mod Logs
+pub mod Theorems

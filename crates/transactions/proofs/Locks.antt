@@ -1,0 +1,100 @@
+-- The locks in their words: room for one more, and one more held. Assumes nothing.
+use Prim.Native.Nat.{ℕ, _+_, _≤_, _<_}
+use mathlib.Core.Path.{_≡_, refl}
+use mathlib.Core.Bool.{Bool, true, false, not}
+use mathlib.Core.List.{List, [], _∷_, _++_}
+use native.Mathlib.Numerals.{add-one}
+use native.Mathlib.Omega.{arith}
+use lib.Dec.{ltb, leb}
+use borrow.Author.Tests.{leb-false, lt-ltb, le-leb, lt-leb}
+use lib.ListN.{length, take, getD, set, length-set}
+use lib.Seq.{take-suc-set, length-take-le}
+use Rattle.tables.specs.Table.{memberOf}
+use Rattle.tables.proofs.Laws.{split}
+use Rattle.boosting.specs.Locks.{cueLock, pushMode, lookMode, takeMode, hold}
+use Rattle.boosting.specs.Room.{locksFull}
+use Rattle.transactions.specs.View.{locksOf, transactionOf, WordsFit, Made, withLock}
+use Rattle.transactions.proofs.Words.{
+  other,
+  same,
+  keep,
+  offLog,
+  keep-log,
+  past-locks,
+  locks-before,
+  log-fits,
+  fits-after,
+}
+
+module _ (w : List ℕ) (f : WordsFit w) where
+  abbrev cues : List ℕ
+  cues = locksOf w .cues
+
+  pub lock-count : length cues ≡ getD w 60 0
+  lock-count = length-take-le (getD w 60 0) w (omega arith)
+
+  -- a 25th cue lock is needed, or not
+  module _ (key : ℕ) where
+    abbrev full : Bool
+    full = locksFull (cueLock key) (locksOf w)
+
+    pub not-full : getD w 60 0 < 24 → full ≡ false
+    not-full h =
+        let e : leb 24 (length cues) ≡ false = lt-leb 24 (length cues) (omega (arith, lock-count)) in
+        split (memberOf key cues) (λ m. rw m) (λ m. rw (m, e))
+
+    pub full-unless-held : 24 ≤ getD w 60 0 → full ≡ not (memberOf key cues)
+    full-unless-held h =
+        let e : leb 24 (length cues) ≡ true = le-leb 24 (length cues) (omega (arith, lock-count)) in
+        split (memberOf key cues) (λ m. rw m) (λ m. rw (m, e))
+
+    pub room-left : memberOf key cues ≡ false → full ≡ false → getD w 60 0 < 24
+    room-left m e =
+        let b : leb 24 (length cues) ≡ false = rw m at e in
+        omega (arith, leb-false 24 (length cues) b, lock-count)
+
+  -- a cue lock that is held already, and one that is new
+  pub held-already : (key : ℕ) → memberOf key cues ≡ true → Made w (withLock (cueLock key) (transactionOf w))
+  unfolding hold
+  held-already key m = record { is = rw m; fits = f }
+
+  pub held-now : (key n : ℕ) → memberOf key cues ≡ false → n ≡ getD w 60 0 → n < 24
+      → Made (set (set w n key) 60 (n + 1)) (withLock (cueLock key) (transactionOf w))
+  unfolding hold
+  held-now key n m e h =
+      let l : length w ≡ 64 = f .long in
+      let a : ltb n 24 ≡ true = lt-ltb n 24 h in
+      let o : offLog n ≡ true = rw a in
+      let b : leb (n + 1) 60 ≡ true = le-leb (n + 1) 60 (omega arith) in
+      let c : take (n + 1) (set w n key) ≡ cues ++ (key ∷ []) =
+      rw (← e, add-one) (take-suc-set w n key (omega arith)) in
+      record {
+        is = simp (other, same, keep, keep-log, past-locks, length-set, l, a, o, b, c, m, log-fits w f);
+        fits = record {
+          long = simp (length-set, l);
+          lock-count-le = simp (same, length-set, l) (omega arith);
+          entry-count-le = simp (other, past-locks, a) (f .entry-count-le);
+        };
+      }
+
+  -- the queue's modes
+  pub holds-push : Made (set w 57 1) (withLock pushMode (transactionOf w))
+  unfolding hold
+  holds-push = record {
+    is = simp (other, same, keep, keep-log, f .long, log-fits w f, locks-before w f);
+    fits = fits-after w f 57 1 refl refl;
+  }
+
+  pub holds-look : Made (set w 58 1) (withLock lookMode (transactionOf w))
+  unfolding hold
+  holds-look = record {
+    is = simp (other, same, keep, keep-log, f .long, log-fits w f, locks-before w f);
+    fits = fits-after w f 58 1 refl refl;
+  }
+
+  pub holds-take : Made (set w 59 1) (withLock takeMode (transactionOf w))
+  unfolding hold
+  holds-take = record {
+    is = simp (other, same, keep, keep-log, f .long, log-fits w f, locks-before w f);
+    fits = fits-after w f 59 1 refl refl;
+  }
