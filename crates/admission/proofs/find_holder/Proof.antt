@@ -1,0 +1,165 @@
+-- `admission::find_holder` meets its contract: what is left to search decides, of the transactions and of a
+-- transaction's locks. Assumes nothing.
+use Prim.Native.Nat.{_-_, _+_, _≤_, _<_}
+use mathlib.Core.Path.{_≡_, refl, sym, _∙_}
+use mathlib.Core.Bool.{true, false}
+use mathlib.Core.List.{[]}
+use mathlib.Core.Logic.{⊎-elim}
+use native.Mathlib.Omega.{arith}
+use lib.ListN.{length, take, drop, getD}
+use Rattle.tables.specs.Table.{memberOf}
+use Rattle.tables.proofs.Laws.{member-hit, member-miss, member-over}
+use Rattle.boosting.specs.Locks.{cueLock}
+use Rattle.admission.proofs.Blocking.{
+  fit-at,
+  blockerFrom,
+  own,
+  no-conflict,
+  conflict,
+  nobody,
+  cue-conflict,
+}
+use Rattle.admission.proofs.find_holder.Statement.{statement}
+use Rattle.admission.proofs.find_holder.Tie as tie
+
+abbrev Inv-loop : tie.InvT-loop
+Inv-loop ts e key i n j₀ j =
+    (n ≤ 24) × (length (getD ts i []) ≡ 64) × (i < 8) × (j ≤ n)
+    × (memberOf key (drop j (take n (getD ts i []))) ≡ memberOf key (take n (getD ts i [])))
+
+abbrev μ-loop : tie.MeasureT-loop
+μ-loop ts e key i n j₀ j = n - j
+
+abbrev Inv-search : tie.InvT-search
+Inv-search ts e key i₀ i = (i ≤ 8) × (blockerFrom ts e (cueLock key) i ≡ blockerFrom ts e (cueLock key) 0)
+
+abbrev μ-search : tie.MeasureT-search
+μ-search ts e key i₀ i = 8 - i
+
+search-holds : tie.Need-search-holds Inv-loop μ-loop Inv-search μ-search
+search-holds c = (omega arith, refl)
+
+add-if2 : tie.Need-add-if2 Inv-loop μ-loop Inv-search μ-search
+add-if2 c = omega arith
+
+mul-n : tie.Need-mul-n Inv-loop μ-loop Inv-search μ-search
+mul-n c = omega arith
+
+index-1-n : tie.Need-index-1-n Inv-loop μ-loop Inv-search μ-search
+index-1-n c = omega arith
+
+index-2-n : tie.Need-index-2-n Inv-loop μ-loop Inv-search μ-search
+index-2-n c = omega arith
+
+loop-holds : tie.Need-loop-holds Inv-loop μ-loop Inv-search μ-search
+loop-holds c =
+    let s = c .before .before .before .before in
+    let i = c .before .before .before .search .i in
+    let f = fit-at (s .args .ts .now) (s .pre .each) i (omega arith) in
+    (f .lock-count-le, f .long, omega arith, omega arith, refl)
+
+mul-if3 : tie.Need-mul-if3 Inv-loop μ-loop Inv-search μ-search
+mul-if3 c = omega arith
+
+mul-if3-2 : tie.Need-mul-if3-2 Inv-loop μ-loop Inv-search μ-search
+mul-if3-2 c = omega arith
+
+index-1-if3 : tie.Need-index-1-if3 Inv-loop μ-loop Inv-search μ-search
+index-1-if3 c = omega arith
+
+index-2-if3 : tie.Need-index-2-if3 Inv-loop μ-loop Inv-search μ-search
+index-2-if3 c = omega arith
+
+add-t25 : tie.Need-add-t25 Inv-loop μ-loop Inv-search μ-search
+add-t25 c = omega arith
+
+add-j : tie.Need-add-j Inv-loop μ-loop Inv-search μ-search
+add-j c = omega arith
+
+loop-less : tie.Need-loop-less Inv-loop μ-loop Inv-search μ-search
+loop-less c = omega arith
+
+loop-again : tie.Need-loop-again Inv-loop μ-loop Inv-search μ-search
+loop-again c =
+    let s = c .before .before .before .before .before .before .before .before in
+    let i = c .before .before .before .before .before .before .before .search .i in
+    let v = c .before .before .before .loop in
+    let w = getD (s .args .ts .now) i [] in
+    let h = c .before .before .loop-test .taken in
+    let m = member-miss (s .args .key) w (getD w 60 0) (v .j) h (omega (arith, v .inv)) (c .if3 .left) in
+    (v .inv .0, v .inv .1, v .inv .2, omega arith, m ∙ v .inv .4)
+
+add-i : tie.Need-add-i Inv-loop μ-loop Inv-search μ-search
+add-i c = omega arith
+
+search-less : tie.Need-search-less Inv-loop μ-loop Inv-search μ-search
+search-less c = omega arith
+
+search-again : tie.Need-search-again Inv-loop μ-loop Inv-search μ-search
+search-again c =
+    let s = c .before .before .before in
+    let v = c .before .before .search in
+    let i = v .i in
+    let key = s .args .key in
+    let ts = s .args .ts .now in
+    let w = getD ts i [] in
+    let h : i < length ts = omega (arith, s .pre .eight) in
+    let q : blockerFrom ts (s .args .e) (cueLock key) i ≡ blockerFrom ts (s .args .e) (cueLock key) (i + 1) =
+    ⊎-elim
+    (λ g.
+    let m : memberOf key (take (getD w 60 0) w) ≡ false =
+    sym (g .2 .inv .4) ∙ member-over key w (getD w 60 0) (g .2 .j) (omega (arith, g .2 .inv)) (g .3 .left) in
+    no-conflict ts (s .args .e) (cueLock key) i h (g .0 .taken) (cue-conflict key w false m))
+    (λ g. own ts (s .args .e) (cueLock key) i h (g .left))
+    (c .if2 .came) in
+    (omega arith, sym q ∙ v .inv .1)
+
+returns : tie.Need-returns Inv-loop μ-loop Inv-search μ-search
+returns c =
+    let s = c .before .before in
+    let v = c .before .search in
+    sym (sym (v .inv .1)
+    ∙ nobody (s .args .ts .now) (s .args .e) (cueLock (s .args .key)) (v .i) (omega (arith, s .pre .eight)))
+
+returns-2 : tie.Need-returns-2 Inv-loop μ-loop Inv-search μ-search
+returns-2 c =
+    let s = c .before .before .before .before .before .before .before .before in
+    let o = c .before .before .before .before .before .before .before .search in
+    let v = c .before .before .before .loop in
+    let key = s .args .key in
+    let ts = s .args .ts .now in
+    let w = getD ts (o .i) [] in
+    let h = c .before .before .loop-test .taken in
+    let m : memberOf key (take (getD w 60 0) w) ≡ true =
+    sym (v .inv .4) ∙ member-hit key w (getD w 60 0) (v .j) h (omega (arith, v .inv)) (c .if3 .taken) in
+    let n = c .before .before .before .before .before .if2 .taken in
+    let q = conflict ts (s .args .e) (cueLock key) (o .i) (omega (arith, s .pre .eight)) n (cue-conflict key w true m) in
+    sym (sym (o .inv .1) ∙ q)
+
+pub find-holder-spec : {M : Type 1} → statement M
+find-holder-spec =
+    tie.close
+    (tie.spec
+    Inv-loop
+    μ-loop
+    Inv-search
+    μ-search
+    search-holds
+    add-if2
+    mul-n
+    index-1-n
+    index-2-n
+    loop-holds
+    mul-if3
+    mul-if3-2
+    index-1-if3
+    index-2-if3
+    add-t25
+    add-j
+    loop-less
+    loop-again
+    add-i
+    search-less
+    search-again
+    returns
+    returns-2)
