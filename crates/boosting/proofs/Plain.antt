@@ -80,7 +80,8 @@ unfolding memberOf
 least-is k [] e j o m = let z : _≡_ {A = ℕ} 0 1 = cc in absurd (omega arith)
 least-is k (x ∷ q) e j o m =
     let p : x ≡ k = cc in
-    split (eqb x j) (λ t. omega (arith, eqb-true x j t)) (λ t. omega (arith, member-from (x + 0) j q (o .0) (rw t at m)))
+    split (eqb x j) (λ t. omega (arith, eqb-true x j t))
+    (λ t. omega (arith, member-from (x + 0) j q (o .0) (rw t at m)))
 
 pub calls-are-plain : CallsArePlain
 unfolding effect reply

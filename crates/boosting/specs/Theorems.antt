@@ -176,7 +176,8 @@ pub record PlainCalls (s : State) : Type 0 where
       → countOf j (effect (push k) s .queue) ≡ cond (eqb k j) (suc (countOf j (s .queue))) (countOf j (s .queue))
   pub take-one :
       (j k : ℕ) (q : List ℕ) → s .queue ≡ k ∷ q
-      → countOf j (s .queue) ≡ cond (eqb k j) (suc (countOf j (effect take s .queue))) (countOf j (effect take s .queue))
+      → countOf j (s .queue)
+      ≡ cond (eqb k j) (suc (countOf j (effect take s .queue))) (countOf j (effect take s .queue))
   pub least-found : (j k : ℕ) → reply take s ≡ isCue k → memberOf j (s .queue) ≡ true → k ≤ j
   pub min-is-take : reply min s ≡ reply take s
   pub looks-change-nothing : (k : ℕ) → (effect (has k) s ≡ s) × (effect min s ≡ s)

@@ -36,10 +36,12 @@ not-refused buf mid bytes r at why h e q =
 pub within : (buf mid bytes : List ℕ) (r : Written) (at end : ℕ) → (r, mid) ≡ writtenAt buf at bytes → r ≡ Upto end
     → end ≤ length buf
 unfolding writtenAt
-within buf mid bytes r at end e q = by-test (leb (at + length bytes) (length buf)) refl (ap (λ (p : Written × List ℕ). p .0) e)
+within buf mid bytes r at end e q =
+    by-test (leb (at + length bytes) (length buf)) refl (ap (λ (p : Written × List ℕ). p .0) e)
   where
     by-test : (b : Bool) → leb (at + length bytes) (length buf) ≡ b
-        → r ≡ cond {A = Written × List ℕ} b (Upto (at + length bytes), placed buf at bytes) (Refused BufferTooShort, buf) .0
+        → r
+        ≡ cond {A = Written × List ℕ} b (Upto (at + length bytes), placed buf at bytes) (Refused BufferTooShort, buf) .0
         → end ≤ length buf
     by-test true t w =
         let u : Upto end ≡ Upto (at + length bytes) = sym q ∙ w in
