@@ -1,6 +1,6 @@
 -- The take entries, counted transaction by transaction. Assumes nothing.
 use Prim.Native.Nat.{ℕ, _+_, _≤_, _<_}
-use mathlib.Core.Path.{_≡_, refl}
+use mathlib.Core.Path.{_≡_}
 use mathlib.Core.List.{List, [], map}
 use lib.ListN.{length, drop, getD}
 use Rattle.boosting.specs.Room.{takesBy, takesIn}

@@ -146,7 +146,8 @@ module _ (s q : List ℕ) (ts : List (List ℕ)) (e : ℕ) (n : Option Entry) wh
       left : length (transaction d e .log) < 16
       left = omega (arith, log-length)
 
-      pub adds : n ≡ some (added k) → {x : Option Refusal} → x ≡ when (scriptFull (some (added k)) (reserved d)) ScriptFull
+      pub adds : n ≡ some (added k) → {x : Option Refusal}
+          → x ≡ when (scriptFull (some (added k)) (reserved d)) ScriptFull
           → x ≡ rows n
       adds h p = p ∙ script-room (transaction d e .log) (reserved d) (queueSlots d) left k ∙ ap rows (sym h)
 
@@ -172,7 +173,8 @@ module _ (d : Store) (e : ℕ) (c : Call) (l : Lock) (is : l ≡ lockOf c) where
     nobody : blocker e (lockOf c) 1 (d .transactions) ≡ none
     nobody = sym (free ∙ ap (λ (x : Lock). blocker e x 1 (d .transactions)) is)
 
-    with-lock : (b : Bool) → b ≡ locksFull l (transaction d e .locks) → locksFull (lockOf c) (transaction d e .locks) ≡ b
+    with-lock : (b : Bool) → b ≡ locksFull l (transaction d e .locks)
+        → locksFull (lockOf c) (transaction d e .locks) ≡ b
     with-lock b h = sym (h ∙ ap (λ (x : Lock). locksFull x (transaction d e .locks)) is)
 
     pub locks-full : true ≡ locksFull l (transaction d e .locks) → some LocksFull ≡ firstMet (callRows d e c)

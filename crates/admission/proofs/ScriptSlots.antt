@@ -1,17 +1,16 @@
 -- The script's slots, put into a table entry by entry and transaction by transaction. Assumes nothing.
-use Prim.Native.Nat.{ℕ, zero, suc, _+_, _-_, _≤_, _<_}
+use Prim.Native.Nat.{ℕ, _+_, _-_, _≤_, _<_}
 use mathlib.Core.Path.{_≡_, refl, ap, sym, _∙_}
-use mathlib.Core.Bool.{Bool, true, false, not}
-use mathlib.Core.List.{List, [], _∷_, _++_, map}
+use mathlib.Core.Bool.{Bool, false, not}
+use mathlib.Core.List.{List, [], _∷_, map}
 use mathlib.Core.Option.{some}
 use native.Mathlib.Numerals.{add-one}
 use native.Mathlib.Omega.{arith}
 use borrow.Author.Tests.{lt-leb, le-leb}
-use lib.Dec.{leb}
-use lib.ListN.{length, take, drop, getD, set}
-use lib.Seq.{take-suc, take-suc-set, length-take-le}
-use Rattle.tables.specs.Table.{Ordered, rankOf, memberOf, insertOf, putOnceOf}
-use Rattle.tables.proofs.Laws.{split, insert-split, length-once}
+use lib.ListN.{length, take, drop, getD}
+use lib.Seq.{length-take-le}
+use Rattle.tables.specs.Table.{Ordered, memberOf, putOnceOf}
+use Rattle.tables.proofs.Laws.{split, length-once}
 use Rattle.boosting.specs.Undo.{Entry, added, removed, pushed, taken}
 use Rattle.boosting.specs.Locks.{noLocks}
 use Rattle.boosting.specs.Store.{closed}
@@ -20,21 +19,6 @@ use Rattle.boosting.proofs.Slots.{in-ordered}
 use Rattle.transactions.specs.View.{transactionOf, entryAt, entriesOf}
 use Rattle.transactions.proofs.Logs.{length-entries}
 use Rattle.admission.proofs.Blocking.{next, over}
-
--- one more key is copied
-pub copied-more : (a b : List ℕ) (j : ℕ) → j < length a → j < length b → take j a ≡ take j b
-    → take (j + 1) (set a j (getD b j 0)) ≡ take (j + 1) b
-copied-more a b j h g e = rw (add-one, take-suc-set a j (getD b j 0) h, take-suc b j 0 g, e)
-
--- a key put in once: there already, or at its rank
-pub once-there : (k : ℕ) (l : List ℕ) → memberOf k l ≡ true → l ≡ putOnceOf k l
-unfolding putOnceOf
-once-there k l m = rw m
-
-pub once-new : (k r : ℕ) (l m : List ℕ) → memberOf k l ≡ false → r ≡ rankOf k l
-    → m ≡ take r l ++ k ∷ drop r l → m ≡ putOnceOf k l
-unfolding putOnceOf
-once-new k r l m n e q = rw n (q ∙ rw e (sym (insert-split k l)))
 
 -- an entry's slot
 pub slot-added : (k : ℕ) (l : List ℕ) → putOnceOf k l ≡ reservedBy (added k ∷ []) l

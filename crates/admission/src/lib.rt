@@ -5,6 +5,9 @@
 use refusals::Refusal;
 use store_words::Action;
 use store_words::Call;
+use store_words::QUEUE_COUNT;
+use store_words::SCRIPT_COUNT;
+use store_words::lock_of;
 use transactions::Entry;
 use transactions::Lock;
 use transactions::Newest;
@@ -14,10 +17,10 @@ ghost use mathlib.Core.List.{[], _∷_, map};
 ghost use mathlib.Core.Option.{some};
 ghost use Prim.Native.Nat.{_+_, _<_, _≤_};
 ghost use lib.ListN.{length, take};
-ghost use Rattle.tables.specs.Table.{Ordered, memberOf, putOnceOf};
+ghost use Rattle.tables.specs.Table.{Ordered, memberOf};
 ghost use Rattle.boosting.specs.Object.{reply};
 ghost use Rattle.boosting.specs.Undo.{added, entryOf};
-ghost use Rattle.boosting.specs.Locks.{cueLock, lockOf};
+ghost use Rattle.boosting.specs.Locks.{cueLock};
 ghost use Rattle.boosting.specs.Store.{blocker};
 ghost use Rattle.boosting.specs.Room.{reservedBy, reservedIn, takesIn, scriptFull};
 ghost use Rattle.boosting.specs.Rows.{when, callRows, firstMet, request, refusalOf};
@@ -54,11 +57,7 @@ pub enum Blocker {
     Nobody,
 }
 
-// Where the script's and the queue's counts are, behind their keys, and a transaction's count of cue locks.
-const SCRIPT_COUNT: usize = 256;
-
-const QUEUE_COUNT: usize = 64;
-
+// Where a transaction's count of cue locks is.
 const LOCK_COUNT: usize = 60;
 
 // The first transaction other than e that holds a lock on the cue.
@@ -141,20 +140,6 @@ fn in_script(script: &[u64; 257], key: u64) -> bool
     tables::stands_at(script, n, at, key)
 }
 
-// The lock that a call takes.
-fn lock_of(call: Call) -> Lock
-    ensures { λ r. ⌜ modelLock r ≡ lockOf (modelCall call) ⌝ }
-{
-    match call {
-        Call::Add(key) => Lock::Cue(key),
-        Call::Remove(key) => Lock::Cue(key),
-        Call::Has(key) => Lock::Cue(key),
-        Call::Push(_) => Lock::Push,
-        Call::Min => Lock::Look,
-        Call::Take => Lock::Take,
-    }
-}
-
 // The entry that the call would note, which would be the newest.
 fn entry_of(script: &[u64; 257], queue: &[u64; 65], call: Call) -> Newest
     requires { ⌜ ScriptFits (now script) × Ordered 1 (scriptIn (now script)) × QueueFits (now queue) ⌝ }
@@ -186,31 +171,6 @@ fn entry_of(script: &[u64; 257], queue: &[u64; 65], call: Call) -> Newest
     }
 }
 
-// The first n keys of one table are copied to another.
-fn copy_keys(to: &mut [u64], from: &[u64], n: usize)
-    requires { ⌜ (n ≤ length (now to)) × (n ≤ length (now from)) ⌝ }
-    ensures { λ r. ⌜ take n (now (to .exit)) ≡ take n (now (from .entry)) ⌝ }
-{
-    let mut j = 0;
-    while j < n {
-        to[j] = from[j];
-        j += 1;
-    }
-}
-
-// The key is put among the first n, unless it is there: how many there are then.
-fn put_once(keys: &mut [u64], n: usize, key: u64) -> usize
-    requires { ⌜ (n < length (now keys)) × Ordered 1 (take n (now keys)) ⌝ }
-    ensures { λ r. ⌜ (take r (now (keys .exit)) ≡ putOnceOf key (take n (now (keys .entry)))) × (r ≤ n + 1) ⌝ }
-{
-    let at = tables::rank(keys, n, key);
-    if tables::stands_at(keys, n, at, key) {
-        return n;
-    }
-    tables::insert_at(keys, n, at, key);
-    n + 1
-}
-
 // The slot that an entry keeps is put among the first n: only add and remove entries keep one.
 fn reserve_entry(keys: &mut [u64], n: usize, entry: Entry) -> usize
     requires { ⌜ (n < length (now keys)) × Ordered 1 (take n (now keys)) ⌝ }
@@ -218,8 +178,8 @@ fn reserve_entry(keys: &mut [u64], n: usize, entry: Entry) -> usize
         × (r ≤ n + 1) ⌝ }
 {
     match entry {
-        Entry::Added(key) => put_once(keys, n, key),
-        Entry::Removed(key) => put_once(keys, n, key),
+        Entry::Added(key) => tables::put_once(keys, n, key),
+        Entry::Removed(key) => tables::put_once(keys, n, key),
         Entry::Pushed(_) => n,
         Entry::Taken(_) => n,
     }
@@ -250,7 +210,7 @@ fn reserve_all(keys: &mut [u64], script: &[u64; 257], ts: &[[u64; 64]; 8]) -> us
         ≡ reservedIn (map transactionOf (now (ts .entry))) (scriptIn (now (script .entry)))) × (r ≤ 384) ⌝ }
 {
     let mut n = script[SCRIPT_COUNT] as usize;
-    copy_keys(keys, script, n);
+    tables::copy_keys(keys, script, n);
     let mut i = 8;
     while 0 < i {
         i -= 1;

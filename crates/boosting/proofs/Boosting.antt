@@ -12,7 +12,7 @@ use lib.ListN.{length, getD}
 use borrow.Author.Tests.{eqb-true, eqb-false, ne-eqb}
 use Rattle.refusals.specs.declared.Refusal.{Refusal}
 use Rattle.refusals.specs.declared.Refusal.the-variants.{Blocked, LocksFull, UndoLogFull, ScriptFull, QueueFull}
-use Rattle.steps.specs.declared.answers.Answer.the-variants.{Refused}
+use Rattle.answers.specs.declared.Answer.the-variants.{Refused}
 use Rattle.tables.proofs.Laws.{split}
 use Rattle.boosting.specs.Object.{Call, effect, reply}
 use Rattle.boosting.specs.Undo.{entryOf, noted}

@@ -6,7 +6,7 @@ use mathlib.Core.Bool.{Bool, true, false, cond, not, _&&_, _||_}
 use mathlib.Core.List.{List, [], _∷_, _++_}
 use mathlib.Core.Option.{Option, none, some}
 use native.Mathlib.Omega.{arith}
-use lib.Dec.{eqb, ltb, leb}
+use lib.Dec.{eqb, leb}
 use lib.ListN.{length, getD, set, length-set, length-append}
 use borrow.Author.Tests.{leb-false, eqb-true, ne-eqb}
 use Rattle.cues.specs.Cue.{CueKey}
@@ -25,6 +25,7 @@ use Rattle.tables.proofs.Laws.{
   member-tail,
 }
 use Rattle.scripts.specs.Theorems.{AllCues}
+use Rattle.scripts.proofs.Theorems.{all-insert}
 use Rattle.boosting.specs.Object.{
   Call,
   add,
@@ -59,7 +60,7 @@ use Rattle.boosting.specs.Store.{
 use Rattle.boosting.specs.Room.{reserved, takesBy, takesIn, locksFull, logFull, scriptFull, queueFull}
 use Rattle.boosting.specs.Rows.{isClosed}
 use Rattle.boosting.specs.Step.{accept, unwound, undoNewest, aborted}
-use Rattle.boosting.specs.Sound.{Once, keyIn, AllEntries, SoundTransaction, AllSound, Sound}
+use Rattle.boosting.specs.Sound.{Once, keyIn, AllEntries, SoundTransaction, AllSound, Sound, CallKey}
 use Rattle.boosting.proofs.Sorted.{member-end}
 use Rattle.boosting.proofs.ObjectLaws.{tail-good}
 use Rattle.boosting.proofs.StoreLaws.{not-zero}
@@ -77,23 +78,9 @@ use Rattle.boosting.proofs.Accepted.{CallAccepted}
 
 -- ---- keys in range
 
--- a call on a cue has the key of a cue in range
-abbrev pub CallKey : Call → Type 0
-CallKey (add k) = CueKey k
-CallKey (remove k) = CueKey k
-CallKey (has k) = CueKey k
-CallKey (push k) = CueKey k
-CallKey min = Unit {0}
-CallKey take = Unit {0}
-
 abbrev NotedKey : Option Entry → Type 0
 NotedKey none = Unit {0}
 NotedKey (some n) = CueKey (keyIn n)
-
-all-insert : (k : ℕ) (l : List ℕ) → CueKey k → AllCues l → AllCues (insertOf k l)
-unfolding insertOf
-all-insert k [] g c = (g, tt)
-all-insert k (x ∷ l) g c = split (ltb x k) (λ e. rw e (c .0, all-insert k l g (c .1))) (λ e. rw e (g, c))
 
 all-once : (k : ℕ) (l : List ℕ) → CueKey k → AllCues l → AllCues (putOnceOf k l)
 unfolding putOnceOf

@@ -1,6 +1,8 @@
 -- The proofs. `Theorems` lists what is proved; the rest is how: laws (`Sorted`, `ObjectLaws`, `StoreLaws`, `Accepted`),
 -- terms 1 and 2 (`Refusals`, `StepTable`, `Boosting`, `Plain`), term 3 (`Trace`, `Invariant`, `Stepping`, `Unwinding`,
--- `Recovering`, `Term3`), what stepping keeps (`Slots`, `Keeping`, `Sound`), and the lock listing (`Listing`).
+-- `Recovering`, `Term3`), what stepping keeps (`Slots`, `Keeping`, `Sound`), and the lock listing (`Listing`). Before
+-- all of them the acceptance tests are computed (`Acceptance`).
+pub mod Acceptance
 pub mod Accepted
 pub mod Boosting
 pub mod Invariant

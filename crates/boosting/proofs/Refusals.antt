@@ -37,7 +37,7 @@ use Rattle.steps.specs.declared.reading.Step.the-variants.{
   RollBack,
   Malformed,
 }
-use Rattle.steps.specs.declared.answers.Answer.the-variants.{Refused}
+use Rattle.answers.specs.declared.Answer.the-variants.{Refused}
 use Rattle.boosting.specs.Object.{reply}
 use Rattle.boosting.specs.Undo.{Entry, entryOf}
 use Rattle.boosting.specs.Locks.{lockOf}

@@ -2,7 +2,6 @@
 -- as it has entries. Assumes nothing.
 use Prim.Native.Nat.{ℕ, zero, suc, _≤_, max}
 use mathlib.Core.Path.{_≡_, refl, ap, _∙_}
-use mathlib.Core.Bool.{true}
 use mathlib.Core.List.{List, [], _∷_}
 use mathlib.Core.Option.{Option, none, some}
 use native.Mathlib.Nat.{suc-max-suc, zero-max}
@@ -46,7 +45,7 @@ use Rattle.boosting.specs.Rows.{
 use Rattle.boosting.specs.Step.{perform, decided, stepOn, stepLine}
 use Rattle.boosting.specs.Run.{Run, advance, runFrom}
 use Rattle.boosting.specs.Recovery.{rollBacks, recoverOne, recover}
-use Rattle.boosting.specs.Sound.{AllSound, Sound}
+use Rattle.boosting.specs.Sound.{AllSound, Sound, RequestKey}
 use Rattle.boosting.specs.Theorems.{
   OpenedIsSound,
   SteppingKeepsSound,
@@ -59,7 +58,6 @@ use Rattle.boosting.proofs.Slots.{script-reserved}
 use Rattle.boosting.proofs.Accepted.{accepted-valid, accepted-call}
 use Rattle.boosting.proofs.Unwinding.{further, Aborting, closes, stays}
 use Rattle.boosting.proofs.Keeping.{
-  CallKey,
   closed-sound,
   transaction-sound,
   begin-sound,
@@ -91,15 +89,6 @@ opened-is-sound text =
     }
 
 -- ---- one step
-
--- a call whose cue's numbers are in range has the key of a cue
-abbrev pub RequestKey : Request → Type 0
-RequestKey malformed = Unit {0}
-RequestKey (request e begin) = Unit {0}
-RequestKey (request e commit) = Unit {0}
-RequestKey (request e abort) = Unit {0}
-RequestKey (request e rollBack) = Unit {0}
-RequestKey (request e (call b c)) = b ≡ true → CallKey c
 
 pub request-key : (s : Step) → RequestKey (requestOf s)
 request-key (Begin e) = tt

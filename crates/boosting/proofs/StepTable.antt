@@ -1,7 +1,7 @@
 -- The table of steps: what an accepted begin, commit, abort and rollback step leave. Assumes nothing.
 use Prim.Native.Nat.{ℕ}
 use mathlib.Core.Path.{_≡_, refl}
-use Rattle.steps.specs.declared.answers.Answer.{Answer}
+use Rattle.answers.specs.declared.Answer.{Answer}
 use Rattle.boosting.specs.Object.{State}
 use Rattle.boosting.specs.Store.{Transaction, Store, put}
 use Rattle.boosting.specs.Rows.{Action, begin, commit, abort, rollBack, request}

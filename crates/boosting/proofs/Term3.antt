@@ -9,10 +9,9 @@ use mathlib.Core.Logic.{inl}
 use mathlib.Core.Option.{Option, none, some}
 use native.Mathlib.Omega.{arith}
 use lib.Dec.{eqb}
-use lib.ListN.{getD, replicate}
 use Rattle.refusals.specs.declared.Refusal.{Refusal}
 use Rattle.steps.specs.Step.{stepOf}
-use Rattle.steps.specs.declared.answers.Answer.{Answer}
+use Rattle.answers.specs.declared.Answer.{Answer}
 use Rattle.tables.specs.Table.{memberOf}
 use Rattle.scripts.specs.Script.{scriptOf}
 use Rattle.scripts.proofs.Theorems.{read-is-sound}
@@ -22,7 +21,6 @@ use Rattle.boosting.specs.Store.{
   closed,
   «open»,
   aborting,
-  closedTransaction,
   Store,
   started,
   opened,
@@ -59,6 +57,7 @@ use Rattle.boosting.specs.Replay.{
   heard,
 }
 use Rattle.boosting.specs.Theorems.{Covers, Term3, Term3Rising}
+use Rattle.boosting.proofs.Acceptance.{eight-closed}
 use Rattle.boosting.proofs.ObjectLaws.{Good, started-good}
 use Rattle.boosting.proofs.Trace.{Item, play, Same, In, play-nil, play-cons}
 use Rattle.boosting.proofs.StoreLaws.{valid-range, open-unclosed, aborting-unclosed}
@@ -199,16 +198,9 @@ module _ (start : State) (g : Good start) where
 
 -- ---- the start
 
-all-closed : (n i : ℕ) → getD (replicate n closedTransaction) i closedTransaction .standing ≡ closed
-unfolding closedTransaction
-all-closed zero i = refl
-all-closed (suc n) zero = refl
-all-closed (suc n) (suc i) = all-closed n i
-
 opened-closed : (script : List ℕ) (e : ℕ) → transaction (opened script) e .standing ≡ closed
-unfolding transaction opened closedTransaction
-opened-closed script zero = refl
-opened-closed script (suc i) = all-closed 8 i
+unfolding opened
+opened-closed script e = eight-closed (opened script) refl e
 
 opened-keeps : (script : List ℕ) → Kept (started script) (begun (opened script))
 unfolding opened play callsOf answersOf feed heardBack

@@ -1,4 +1,4 @@
--- The model of the desk, in reading order.
+-- The model of the desk, in reading order: definitions, theorems, and the theorems at single runs.
 pub mod Object
 pub mod Undo
 pub mod Locks
@@ -12,3 +12,4 @@ pub mod Replay
 pub mod Listing
 pub mod Sound
 pub mod Theorems
+pub mod Acceptance

@@ -5,8 +5,8 @@ use Prim.Native.Nat.{ℕ}
 use mathlib.Core.Bool.{cond}
 use mathlib.Core.List.{List, [], _∷_}
 use Rattle.cues.specs.Cue.{cueOf}
-use Rattle.steps.specs.declared.answers.Answer.{Answer}
-use Rattle.steps.specs.declared.answers.Answer.the-variants.{Ok, Yes, No, Empty, Cue}
+use Rattle.answers.specs.declared.Answer.{Answer}
+use Rattle.answers.specs.declared.Answer.the-variants.{Ok, Yes, No, Empty, Cue}
 use Rattle.tables.specs.Table.{memberOf, insertOf, deleteOf, putOnceOf}
 
 pub data Call : Type 0 where

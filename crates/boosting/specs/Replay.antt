@@ -6,8 +6,8 @@ use mathlib.Core.Bool.{Bool, true, false, cond}
 use mathlib.Core.List.{List, [], _∷_, _++_, map, reverse}
 use lib.Dec.{eqb}
 use Rattle.steps.specs.Step.{stepOf}
-use Rattle.steps.specs.declared.answers.Answer.{Answer}
-use Rattle.steps.specs.declared.answers.Answer.the-variants.{Ok, Yes, No, Empty, Cue, Left, Refused}
+use Rattle.answers.specs.declared.Answer.{Answer}
+use Rattle.answers.specs.declared.Answer.the-variants.{Ok, Yes, No, Empty, Cue, Left, Refused}
 use Rattle.boosting.specs.Object.{Call, State, effect, reply, answerOf}
 use Rattle.boosting.specs.Rows.{begin, commit, abort, rollBack, call, Request, malformed, request, requestOf}
 use Rattle.boosting.specs.Run.{Event}

@@ -1,7 +1,7 @@
 -- A run: a list of lines of bytes, of any length, stepped one after the other. Assumes nothing.
 use Prim.Native.Nat.{ℕ}
 use mathlib.Core.List.{List, [], _∷_, map, reverse}
-use Rattle.steps.specs.declared.answers.Answer.{Answer}
+use Rattle.answers.specs.declared.Answer.{Answer}
 use Rattle.boosting.specs.Store.{Store}
 use Rattle.boosting.specs.Step.{stepLine}
 

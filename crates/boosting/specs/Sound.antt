@@ -1,15 +1,17 @@
 -- What opening and stepping keep of a store: order, ranges and room. Assumes nothing.
 use Prim.Native.Nat.{ℕ, _≤_}
 use mathlib.Core.Path.{_≡_}
-use mathlib.Core.Bool.{false}
+use mathlib.Core.Bool.{true, false}
 use mathlib.Core.List.{List, [], _∷_}
 use lib.ListN.{length}
 use Rattle.cues.specs.Cue.{CueKey}
 use Rattle.tables.specs.Table.{Ordered, memberOf}
 use Rattle.scripts.specs.Theorems.{AllCues}
+use Rattle.boosting.specs.Object.{Call, add, remove, has, push, min, take}
 use Rattle.boosting.specs.Undo.{Entry, added, removed, pushed, taken}
 use Rattle.boosting.specs.Store.{closed, Transaction, closedTransaction, Store}
 use Rattle.boosting.specs.Room.{reserved, queueSlots}
+use Rattle.boosting.specs.Rows.{begin, commit, abort, rollBack, call, Request, malformed, request}
 
 -- no key stands twice
 abbrev pub Once : List ℕ → Type 0
@@ -49,3 +51,21 @@ pub record Sound (d : Store) : Type 0 where
   pub transactions-sound : AllSound (d .transactions)
   pub script-slots : length (reserved d) ≤ 256
   pub queue-slots : queueSlots d ≤ 64
+
+-- a call on a cue has the key of a cue in range
+abbrev pub CallKey : Call → Type 0
+CallKey (add k) = CueKey k
+CallKey (remove k) = CueKey k
+CallKey (has k) = CueKey k
+CallKey (push k) = CueKey k
+CallKey min = Unit {0}
+CallKey take = Unit {0}
+
+-- what stepping asks of a request: a call whose cue's numbers are in range has the key of a cue
+abbrev pub RequestKey : Request → Type 0
+RequestKey malformed = Unit {0}
+RequestKey (request e begin) = Unit {0}
+RequestKey (request e commit) = Unit {0}
+RequestKey (request e abort) = Unit {0}
+RequestKey (request e rollBack) = Unit {0}
+RequestKey (request e (call b c)) = b ≡ true → CallKey c

@@ -6,8 +6,8 @@ use lib.ListN.{length}
 use Rattle.refusals.specs.declared.Refusal.{Refusal}
 use Rattle.refusals.specs.declared.Refusal.the-variants.{Malformed as MalformedLine}
 use Rattle.steps.specs.Step.{stepOf}
-use Rattle.steps.specs.declared.answers.Answer.{Answer}
-use Rattle.steps.specs.declared.answers.Answer.the-variants.{Ok, Left, Refused}
+use Rattle.answers.specs.declared.Answer.{Answer}
+use Rattle.answers.specs.declared.Answer.the-variants.{Ok, Left, Refused}
 use Rattle.boosting.specs.Object.{Call, effect, reply, answerOf}
 use Rattle.boosting.specs.Undo.{Entry, entryOf, inverse, noted}
 use Rattle.boosting.specs.Locks.{Locks, lockOf, hold}

@@ -13,8 +13,8 @@ use Rattle.refusals.specs.declared.Refusal.the-variants.{Blocked}
 use Rattle.refusals.specs.declared.Refusal.the-variants.{Malformed as MalformedLine}
 use Rattle.steps.specs.Step.{stepOf}
 use Rattle.steps.specs.declared.reading.Step.the-variants.{Malformed}
-use Rattle.steps.specs.declared.answers.Answer.{Answer}
-use Rattle.steps.specs.declared.answers.Answer.the-variants.{Ok, Left, Refused}
+use Rattle.answers.specs.declared.Answer.{Answer}
+use Rattle.answers.specs.declared.Answer.the-variants.{Ok, Left, Refused}
 use Rattle.tables.specs.Table.{Ordered, memberOf, insertOf, deleteOf, putOnceOf}
 use Rattle.scripts.specs.declared.reading.Outcome.the-variants.{Accepted}
 use Rattle.scripts.specs.Script.{scriptOf}

@@ -6,7 +6,7 @@
 use buffers::Written;
 use libc::STDIN_FILENO;
 use libc::STDOUT_FILENO;
-use scripts::write_report;
+use script_texts::write_report;
 
 fn main() {
     let mut input = [0u8; 65537];

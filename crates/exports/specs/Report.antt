@@ -5,7 +5,7 @@ use Rattle.refusals.specs.Refusal.{refusalNumber}
 use Rattle.buffers.specs.Written.{writtenAt}
 use Rattle.buffers.specs.declared.Written.{Written}
 use Rattle.buffers.specs.declared.Written.the-variants.{Upto, Refused}
-use Rattle.scripts.specs.ScriptText.{reportOf}
+use Rattle.script_texts.specs.Format.{reportOf}
 
 -- how many bytes were written, or the refusal's number above 2^32
 abbrev pub answerNumber : Written → ℕ

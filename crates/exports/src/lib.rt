@@ -8,7 +8,7 @@ ghost use Rattle.exports.specs.Report.{exported};
 use buffers::Written;
 use checksum::checksum_from;
 use refusals::refusal_number;
-use scripts::write_report;
+use script_texts::write_report;
 
 // Writes what `cue_format` prints of a text to the front of the buffer, and answers how many bytes that is; a buffer
 // that is too short stays as it was, and the answer is the refusal's number above 2^32.

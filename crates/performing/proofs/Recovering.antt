@@ -9,7 +9,7 @@ use native.Mathlib.Numerals.{add-one}
 use native.Mathlib.Omega.{arith}
 use lib.ListN.{length, getD}
 use Rattle.refusals.specs.declared.Refusal.{Refusal}
-use Rattle.steps.specs.declared.answers.Answer.{Answer}
+use Rattle.answers.specs.declared.Answer.{Answer}
 use Rattle.boosting.specs.Store.{Standing, closed, «open», aborting, Transaction, Store, transaction}
 use Rattle.boosting.specs.Rows.{Action, abort, rollBack, request, refusalOf}
 use Rattle.boosting.specs.Step.{Out, perform, stepOn}

@@ -11,7 +11,7 @@ use lib.Dec.{leb}
 use lib.ListN.{length, take, getD}
 use Rattle.tables.specs.Table.{Ordered, memberOf}
 use Rattle.tables.proofs.Laws.{ordered-weaken}
-use Rattle.boosting.specs.Object.{State, isYes, isNo, isCue, least}
+use Rattle.boosting.specs.Object.{isYes, isNo, isCue, least}
 use Rattle.boosting.specs.Undo.{Entry}
 use Rattle.boosting.specs.Locks.{Lock}
 use Rattle.boosting.specs.Store.{Transaction}

@@ -8,8 +8,8 @@ use native.Mathlib.Nat.{le-of-suc-le-suc, not-suc-le-zero}
 use native.Mathlib.Omega.{arith}
 use lib.ListN.{length, getD, set, length-set, List·getD-map}
 use lib.Seq.{getD-set-same}
-use Rattle.steps.specs.declared.answers.Answer.{Answer}
-use Rattle.steps.specs.declared.answers.Answer.the-variants.{Ok, Left}
+use Rattle.answers.specs.declared.Answer.{Answer}
+use Rattle.answers.specs.declared.Answer.the-variants.{Ok, Left}
 use Rattle.boosting.specs.Object.{Call, State, effect, reply, answerOf}
 use Rattle.boosting.specs.Undo.{Entry, entryOf, noted}
 use Rattle.boosting.specs.Locks.{Lock, lockOf, hold, noLocks}

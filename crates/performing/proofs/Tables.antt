@@ -1,10 +1,11 @@
 -- One key more or less in a table with its count behind it. Assumes nothing.
 use Prim.Native.Nat.{ℕ, _+_, _-_, _≤_}
-use mathlib.Core.Path.{_≡_, refl, sym, _∙_}
-use mathlib.Core.Bool.{true, false}
+use mathlib.Core.Path.{_≡_, refl, ap, sym, _∙_}
+use mathlib.Core.Bool.{true, not}
 use mathlib.Core.List.{List, [], _∷_, _++_}
 use native.Mathlib.Omega.{arith}
 use native.Mathlib.Numerals.{add-one}
+use lib.Dec.{ltb}
 use lib.ListN.{length, take, drop, getD, set, length-set}
 use lib.Seq.{length-take-le, getD-set-same, take-set-le}
 use Rattle.tables.specs.Table.{Ordered, rankOf, memberOf, insertOf, deleteOf, putOnceOf}
@@ -42,6 +43,18 @@ module _ (m : ℕ) (t : List ℕ) (f : TableFits m t) where
         (omega (arith, f .count-le))
         (e ∙ (rw (r, add-one) (sym (tables.delete-split k (keysIn m t) o g))))
 
+  module _ (u : List ℕ) (same-length : length u ≡ length t) (k n : ℕ) (h : n ≤ getD t m 0 + 1)
+      (e : take n u ≡ putOnceOf k (keysIn m t)) where
+    grown : length (putOnceOf k (keysIn m t)) ≡ n
+    grown = ap length (sym e) ∙ length-take-le n u (omega (arith, h, same-length, f .long, f .count-le))
+
+    pub put-once : length (putOnceOf k (keysIn m t)) ≤ m → Holds m (set u m n) (putOnceOf k (keysIn m t))
+    put-once g = counted m u (putOnceOf k (keysIn m t)) n (same-length ∙ f .long) (omega (arith, g, grown)) e
+
+    pub was-new : ltb (getD t m 0) n ≡ not (memberOf k (keysIn m t))
+    was-new =
+        (λ i. ltb (sym count i) (sym grown i)) ∙ tables.more-when-new k (keysIn m t)
+
   pub least-removed : (u : List ℕ) → length u ≡ length t
       → take (getD t m 0 - 1) u ≡ take 0 (keysIn m t) ++ drop (0 + 1) (keysIn m t)
       → Holds m (set u m (getD t m 0 - 1)) (tail (keysIn m t))
@@ -52,14 +65,6 @@ module _ (m : ℕ) (t : List ℕ) (f : TableFits m t) where
       dropped : (l : List ℕ) → drop 1 l ≡ tail l
       dropped [] = refl
       dropped (x ∷ l) = refl
-
-pub once-there : (k : ℕ) (l : List ℕ) → memberOf k l ≡ true → putOnceOf k l ≡ l
-unfolding putOnceOf
-once-there k l h = rw h
-
-pub once-new : (k : ℕ) (l : List ℕ) → memberOf k l ≡ false → putOnceOf k l ≡ insertOf k l
-unfolding putOnceOf
-once-new k l h = rw h
 
 pub tail-none : (t : List ℕ) (n : ℕ) → n ≡ 0 → take n t ≡ tail (take n t)
 tail-none t n e = rw e

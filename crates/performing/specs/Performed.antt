@@ -3,11 +3,11 @@ use Prim.Native.Nat.{ℕ}
 use mathlib.Core.Path.{_≡_}
 use mathlib.Core.List.{List}
 use mathlib.Core.Option.{none}
-use Rattle.steps.specs.declared.answers.Answer.{Answer}
+use Rattle.answers.specs.declared.Answer.{Answer}
 use Rattle.boosting.specs.Store.{Store}
 use Rattle.boosting.specs.Rows.{Action, request, refusalOf}
 use Rattle.boosting.specs.Step.{Out}
-use Rattle.boosting.proofs.Sound.{RequestKey}
+use Rattle.boosting.specs.Sound.{RequestKey}
 use Rattle.store_words.specs.Words.{storeOf, StoreFits}
 
 -- no row turns the request away, and a call in range has the key of a cue

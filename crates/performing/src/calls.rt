@@ -3,8 +3,7 @@ ghost use mathlib.Core.Path.{_≡_};
 ghost use mathlib.Core.Bool.{cond};
 ghost use Rattle.boosting.specs.Object.{isYes, isNo, least, effect, reply, answerOf};
 ghost use Rattle.boosting.specs.Undo.{entryOf, onYes, onCue};
-ghost use Rattle.boosting.specs.Locks.{lockOf};
-ghost use Rattle.transactions.specs.Code.{modelLock, modelEntry, modelNewest};
+ghost use Rattle.transactions.specs.Code.{modelEntry, modelNewest};
 ghost use Rattle.store_words.specs.Words.{QueueFits, queueIn, stateOf};
 ghost use Rattle.store_words.specs.Requests.{modelCall};
 ghost use Rattle.performing.specs.Replies.{modelReply};
@@ -14,11 +13,10 @@ use crate::counted::insert_key;
 use crate::counted::put_once;
 use crate::counted::remove_key;
 use crate::counted::remove_least;
+use answers::Answer;
 use cues::key_cue;
-use steps::Answer;
 use store_words::Call;
 use transactions::Entry;
-use transactions::Lock;
 use transactions::Newest;
 
 // What a call is answered; a cue by its key.
@@ -48,20 +46,6 @@ fn least_key(queue: &[u64; 65]) -> Reply
         return Reply::Empty;
     }
     Reply::Cue(queue[0])
-}
-
-// The lock that a call takes.
-pub fn lock_of(call: Call) -> Lock
-    ensures { λ r. ⌜ modelLock r ≡ lockOf (modelCall call) ⌝ }
-{
-    match call {
-        Call::Add(key) => Lock::Cue(key),
-        Call::Remove(key) => Lock::Cue(key),
-        Call::Has(key) => Lock::Cue(key),
-        Call::Push(_) => Lock::Push,
-        Call::Min => Lock::Look,
-        Call::Take => Lock::Take,
-    }
 }
 
 // The entry, where the reply is yes.

@@ -29,13 +29,9 @@ pub fn put_once(table: &mut [u64], capacity: usize, key: u64) -> bool
     ensures { λ r. ⌜ Holds capacity (now (table .exit)) (putOnceOf key (keysIn capacity (now (table .entry)))) ⌝ }
 {
     let n = table[capacity] as usize;
-    let at = rank(table, n, key);
-    if stands_at(table, n, at, key) {
-        return false;
-    }
-    insert_at(table, n, at, key);
-    table[capacity] = (n + 1) as u64;
-    true
+    let m = tables::put_once(table, n, key);
+    table[capacity] = m as u64;
+    n < m
 }
 
 // Puts the key in the table, which may have it already.

@@ -10,7 +10,7 @@ ghost use Rattle.performing.specs.Performed.{Ready, Performed};
 use crate::counted::insert_key;
 use crate::counted::put_once;
 use crate::counted::remove_key;
-use steps::Answer;
+use answers::Answer;
 use transactions::Entry;
 use transactions::Newest;
 use transactions::entry_count;

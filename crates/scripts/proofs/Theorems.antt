@@ -72,7 +72,7 @@ grown k t u e = by-tests (memberOf k t) (ltb (length t) 256) refl refl e
     by-tests false true m l q = new (ltb-true _ _ l) (cc)
     by-tests false false m l q = let z : _≡_ {A = ℕ} 0 1 = cc in absurd (omega arith)
 
-all-insert : (k : ℕ) (t : List ℕ) → CueKey k → AllCues t → AllCues (insertOf k t)
+pub all-insert : (k : ℕ) (t : List ℕ) → CueKey k → AllCues t → AllCues (insertOf k t)
 unfolding insertOf
 all-insert k [] g c = (g, tt)
 all-insert k (x ∷ t) g c =

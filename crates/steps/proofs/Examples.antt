@@ -1,18 +1,12 @@
--- Step lines and answer lines, computed: each of the ten steps, each way to be malformed, and each kind of answer.
--- Assumes nothing.
+-- Step lines, computed: each of the ten steps, and each way to be malformed. Assumes nothing.
 use mathlib.Core.Path.{_≡_, refl}
 use mathlib.Core.List.{List, [], _∷_, map}
 use Prim.Native.Nat.{ℕ}
 use Prim.Native.String.{String}
 use Rattle.lines.specs.Ascii.{bytes}
 use Rattle.lines.specs.Lines.{upTo}
-use Rattle.numbers.specs.Digits.{digitsAt}
 use Rattle.numbers.specs.Number.{valueFrom, numberOf}
-use Rattle.records.specs.Record.{recordText}
-use Rattle.refusals.specs.declared.Refusal.the-variants.{TransactionOutOfRange, Blocked, QueueFull, BufferTooShort}
-use Rattle.refusals.specs.declared.Refusal.the-variants.{Malformed as MalformedLine}
 use Rattle.cues.specs.CueLine.{fieldsOf}
-use Rattle.cues.specs.CueText.{cueText}
 use Rattle.steps.specs.declared.reading.CueNumbers.{CueNumbers}
 use Rattle.steps.specs.declared.reading.Step.{Step}
 use Rattle.steps.specs.declared.reading.Step.the-variants.{
@@ -28,11 +22,8 @@ use Rattle.steps.specs.declared.reading.Step.the-variants.{
   RollBack,
   Malformed,
 }
-use Rattle.steps.specs.declared.answers.Answer.{Answer}
-use Rattle.steps.specs.declared.answers.Answer.the-variants.{Ok, Yes, No, Empty, Cue, Left, Refused}
 use Rattle.steps.specs.Word.{same, wordOf}
 use Rattle.steps.specs.Step.{stepOf}
-use Rattle.steps.specs.Answer.{refusalText, answerText}
 
 abbrev cue : ℕ → ℕ → ℕ → CueNumbers
 cue t m p = record { time = t; «module» = m; pin = p }
@@ -91,26 +82,3 @@ steps =
 pub steps-hold : map (λ x. stepOf (bytes (x .0))) steps ≡ map (λ x. x .1) steps
 unfolding upTo valueFrom numberOf fieldsOf same wordOf
 steps-hold = refl
-
--- an answer, and its line
-abbrev pub answers : List (Answer × String)
-answers =
-    (Ok, "ok\n")
-    ∷ (Yes, "yes\n")
-    ∷ (No, "no\n")
-    ∷ (Empty, "empty\n")
-    ∷ (Cue (record { time = 900; «module» = 1; pin = 1 }), "cue,900,1,1\n")
-    ∷ (Left 1, "left,1\n")
-    ∷ (Left 0, "left,0\n")
-    ∷ (Left 16, "left,16\n")
-    ∷ (Refused MalformedLine, "refused,1\n")
-    ∷ (Refused TransactionOutOfRange, "refused,2\n")
-    ∷ (Refused (Blocked 1), "refused,8,1\n")
-    ∷ (Refused QueueFull, "refused,12\n")
-    ∷ (Refused BufferTooShort, "refused,14\n")
-    ∷ []
-
--- each answer prints the line beside it
-pub answers-hold : map (λ x. answerText (x .0)) answers ≡ map (λ x. bytes (x .1)) answers
-unfolding digitsAt recordText cueText refusalText
-answers-hold = refl

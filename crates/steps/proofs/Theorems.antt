@@ -1,5 +1,4 @@
--- A step's line stands for that step and is its only line; an answer's line stands for that answer alone.
--- Assumes nothing.
+-- A step's line stands for that step and is its only line. Assumes nothing.
 use mathlib.Core.Path.{_≡_, refl, sym, ap, _∙_, subst}
 use mathlib.Core.List.{List, _∷_, _++_}
 use Prim.Native.Nat.{ℕ}
@@ -51,10 +50,9 @@ use Rattle.steps.specs.declared.reading.Step.the-variants.{
 use Rattle.steps.specs.Word.{same, wordOf}
 use Rattle.steps.specs.Step.{numbered, cued, stepWith}
 use Rattle.steps.specs.StepText.{callText, stepText, NineDigitStep}
-use Rattle.steps.specs.Theorems.{StepWriteThenRead, StepReadIsCanonical, AnswersDiffer, AnswerLineOneLf}
+use Rattle.steps.specs.Theorems.{StepWriteThenRead, StepReadIsCanonical}
 use Rattle.steps.proofs.StepText.{number-written, call-written, number-text, call-text, numberWord, cueWord}
 use Rattle.steps.proofs.StepText.{IsWord, is-word, at-comma, not-nil, call-canonical}
-use Rattle.steps.proofs.AnswerText.{answerBack, answer-back, answer-line}
 
 pub step-write-then-read : StepWriteThenRead
 unfolding upTo same wordOf
@@ -106,9 +104,3 @@ by-word l Unknown e some = absurd (some refl)
 pub step-read-is-canonical : StepReadIsCanonical
 step-read-is-canonical l s e some =
     subst (Canonical l) e (by-word l (wordOf (field l)) (is-word (field l)) (λ q. some (sym e ∙ q)))
-
-pub answers-differ : AnswersDiffer
-answers-differ a b fa fb e = sym (answer-back a fa) ∙ (ap answerBack e ∙ answer-back b fb)
-
-pub answer-line-one-lf : AnswerLineOneLf
-answer-line-one-lf = answer-line

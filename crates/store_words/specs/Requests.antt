@@ -1,10 +1,22 @@
--- How the code's calls and actions stand for the model's. Assumes nothing.
+-- How the code's calls, actions and requests stand for the model's. Assumes nothing.
 use Rattle.boosting.specs.Object.{Call as CallM, add, remove, has, push, min, take}
-use Rattle.boosting.specs.Rows.{Action as ActionM, begin, commit, abort, rollBack, call}
+use Rattle.boosting.specs.Rows.{
+  Action as ActionM,
+  begin,
+  commit,
+  abort,
+  rollBack,
+  call,
+  Request as RequestM,
+  malformed,
+  request,
+}
 use Rattle.store_words.specs.declared.Call.{Call}
 use Rattle.store_words.specs.declared.Call.the-variants.{Add, Remove, Has, Push, Min, Take}
 use Rattle.store_words.specs.declared.Action.{Action}
 use Rattle.store_words.specs.declared.Action.the-variants.{Begin, Commit, Abort, RollBack, OnObject}
+use Rattle.store_words.specs.declared.Request.{Request}
+use Rattle.store_words.specs.declared.Request.the-variants.{Malformed, On}
 
 abbrev pub modelCall : Call → CallM
 modelCall (Add k) = add k
@@ -20,3 +32,7 @@ modelAction Commit = commit
 modelAction Abort = abort
 modelAction RollBack = rollBack
 modelAction (OnObject b c) = call b (modelCall c)
+
+abbrev pub modelRequest : Request → RequestM
+modelRequest Malformed = malformed
+modelRequest (On e a) = request e (modelAction a)

@@ -1,5 +1,5 @@
--- The store that lent words show: 257 words of script (256 keys, then their count), 65 words of queue (64 keys, then their
--- count), and eight records of 64 words, a transaction each. Words past a count mean nothing. Assumes nothing.
+-- The store that lent words show: 257 words of script (256 keys, then their count), 65 words of queue (64 keys, then
+-- their count), and eight records of 64 words, a transaction each. Words past a count mean nothing. Assumes nothing.
 use Prim.Native.Nat.{ℕ, _≤_}
 use mathlib.Core.Path.{_≡_}
 use mathlib.Core.List.{List, [], _∷_, map}

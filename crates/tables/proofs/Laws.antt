@@ -1,6 +1,6 @@
 -- Laws of the sorted lists of specs/Table. Assumes nothing.
 use mathlib.Core.Path.{_≡_, refl, ap, sym, _∙_}
-use mathlib.Core.Bool.{Bool, true, false, _||_}
+use mathlib.Core.Bool.{Bool, true, false, not, _||_}
 use mathlib.Core.List.{List, [], _∷_, _++_, append-assoc}
 use Prim.Native.Nat.{ℕ, zero, suc, _+_, _≤_, _<_}
 use native.Mathlib.Nat.{le-of-suc-le-suc, not-suc-le-zero}
@@ -9,7 +9,7 @@ use lib.Dec.{ltb, eqb}
 use native.Mathlib.Nat.{add-zero}
 use native.Mathlib.Numerals.{add-one}
 use lib.ListN.{length, take, drop, getD, set, drop-of-length-le}
-use lib.Seq.{length-take-le, drop-cons, drop-drop, getD-drop, getD-take, take-suc-set, drop-set-lt}
+use lib.Seq.{length-take-le, drop-cons, drop-drop, getD-drop, getD-take, take-suc, take-suc-set, drop-set-lt}
 use borrow.Author.Tests.{ltb-true, ltb-false, lt-ltb, le-ltb, ne-eqb, eq-eqb, eqb-true, eqb-false}
 use Rattle.tables.specs.Table.{From, Ordered, rankOf, memberOf, insertOf, deleteOf, putOnceOf}
 
@@ -268,6 +268,28 @@ once-ordered k l o =
 pub length-once : (k : ℕ) (l : List ℕ) → length (putOnceOf k l) ≤ length l + 1
 unfolding putOnceOf
 length-once k l = split (memberOf k l) (λ m. rw m (omega arith)) (λ m. rw m (omega (arith, length-insert k l)))
+
+-- a key put in once: there already, or at its rank
+pub once-there : (k : ℕ) (l : List ℕ) → memberOf k l ≡ true → l ≡ putOnceOf k l
+unfolding putOnceOf
+once-there k l m = rw m
+
+pub once-new : (k r : ℕ) (l m : List ℕ) → memberOf k l ≡ false → r ≡ rankOf k l
+    → m ≡ take r l ++ k ∷ drop r l → m ≡ putOnceOf k l
+unfolding putOnceOf
+once-new k r l m n e q = rw n (q ∙ rw e (sym (insert-split k l)))
+
+-- and so there is one more key exactly where it was not there
+pub more-when-new : (k : ℕ) (l : List ℕ) → ltb (length l) (length (putOnceOf k l)) ≡ not (memberOf k l)
+unfolding putOnceOf
+more-when-new k l =
+    split (memberOf k l) (λ m. rw m (le-ltb (length l) (length l) (omega arith)))
+    (λ m. rw m (lt-ltb (length l) (length (insertOf k l)) (omega (arith, length-insert k l))))
+
+-- one more key is copied
+pub copied-more : (a b : List ℕ) (j : ℕ) → j < length a → j < length b → take j a ≡ take j b
+    → take (j + 1) (set a j (getD b j 0)) ≡ take (j + 1) b
+copied-more a b j h g e = rw (add-one, take-suc-set a j (getD b j 0) h, take-suc b j 0 g, e)
 
 -- what is a member after an insertion, of what it was before
 pub member-insert : (x k : ℕ) (l : List ℕ) → memberOf x (insertOf k l) ≡ (eqb k x || memberOf x l)

@@ -7,7 +7,7 @@ ghost use mathlib.Core.Path.{_≡_};
 ghost use mathlib.Core.List.{_∷_, _++_};
 ghost use Prim.Native.Nat.{_+_, _-_, _≤_, _<_};
 ghost use lib.ListN.{length, take, drop};
-ghost use Rattle.tables.specs.Table.{Ordered, rankOf, memberOf};
+ghost use Rattle.tables.specs.Table.{Ordered, rankOf, memberOf, putOnceOf};
 
 // How many keys are below `key`: where it stands, or would stand.
 pub fn rank(keys: &[u64], n: usize, key: u64) -> usize
@@ -66,5 +66,30 @@ pub fn remove_at(keys: &mut [u64], n: usize, at: usize)
     while i + 1 < n {
         keys[i] = keys[i + 1];
         i += 1;
+    }
+}
+
+// Puts the key in the table unless it is there: how many keys there are then.
+pub fn put_once(keys: &mut [u64], n: usize, key: u64) -> usize
+    requires { ⌜ (n < length (now keys)) × Ordered 0 (take n (now keys)) ⌝ }
+    ensures { λ r. ⌜ (take r (now (keys .exit)) ≡ putOnceOf key (take n (now (keys .entry)))) × (r ≤ n + 1) ⌝ }
+{
+    let at = rank(keys, n, key);
+    if stands_at(keys, n, at, key) {
+        return n;
+    }
+    insert_at(keys, n, at, key);
+    n + 1
+}
+
+// Copies the first n keys of one table to another.
+pub fn copy_keys(to: &mut [u64], from: &[u64], n: usize)
+    requires { ⌜ (n ≤ length (now to)) × (n ≤ length (now from)) ⌝ }
+    ensures { λ r. ⌜ take n (now (to .exit)) ≡ take n (now (from .entry)) ⌝ }
+{
+    let mut j = 0;
+    while j < n {
+        to[j] = from[j];
+        j += 1;
     }
 }

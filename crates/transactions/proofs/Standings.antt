@@ -35,16 +35,18 @@ module _ (w : List ℕ) (f : WordsFit w) where
   unfolding closedTransaction openTransaction
   opens e = record { is = stands 1 .is ∙ ap (withStanding «open») e; fits = stands 1 .fits }
 
-  pub closes : Made (set (set (set (set (set (set w 56 0) 57 0) 58 0) 59 0) 60 0) 61 0) closedTransaction
-  unfolding closedTransaction noLocks
-  closes = record {
-    is = simp (other, same, length-set, f .long);
-    fits = record {
-      long = simp (length-set, f .long);
-      lock-count-le = simp (other, same, length-set, f .long) (omega arith);
-      entry-count-le = simp (same, length-set, f .long) (omega arith);
-    };
-  }
+-- whatever the words are
+pub closes : (w : List ℕ) → length w ≡ 64
+    → Made (set (set (set (set (set (set w 56 0) 57 0) 58 0) 59 0) 60 0) 61 0) closedTransaction
+unfolding closedTransaction noLocks
+closes w l = record {
+  is = simp (other, same, length-set, l);
+  fits = record {
+    long = simp (length-set, l);
+    lock-count-le = simp (other, same, length-set, l) (omega arith);
+    entry-count-le = simp (same, length-set, l) (omega arith);
+  };
+}
 
 -- after a rollback step: with no entry left the transaction closes, else it goes on aborting
 unwound-empty : (log : List Entry) (l : Locks) → length log ≡ 0 → unwound log l ≡ closedTransaction

@@ -100,7 +100,7 @@ pub fn standing_of(t: &[u64; 64]) -> Standing
 
 // The transaction closes: its locks are free and its log is empty.
 pub fn close(t: &mut [u64; 64])
-    requires { ⌜ WordsFit (now t) ⌝ }
+    requires { ⌜ length (now t) ≡ 64 ⌝ }
     ensures { λ r. ⌜ Made (now (t .exit)) closedTransaction ⌝ }
 {
     t[STANDING] = CLOSED;

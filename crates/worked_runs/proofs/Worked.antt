@@ -10,7 +10,7 @@ use Rattle.tables.specs.Table.{memberOf, insertOf, deleteOf, putOnceOf}
 use Rattle.scripts.specs.Script.{readFrom, scriptOf}
 use Rattle.scripts.specs.ScriptText.{textOf}
 use Rattle.steps.specs.Word.{same, wordOf}
-use Rattle.steps.specs.Answer.{refusalText}
+use Rattle.answers.specs.Answer.{refusalText}
 use Rattle.boosting.specs.Object.{effect, reply}
 use Rattle.boosting.specs.Undo.{entryOf, inverse}
 use Rattle.boosting.specs.Locks.{lockOf, noLocks, hold, conflicts}

@@ -8,7 +8,7 @@ use mathlib.Core.Path.{_≡_}
 use mathlib.Core.List.{List, [], _∷_, _++_, map}
 use Rattle.lines.specs.Ascii.{bytes}
 use Rattle.numbers.specs.Digits.{digitsOf}
-use Rattle.steps.specs.Answer.{answerText}
+use Rattle.answers.specs.Answer.{answerText}
 use Rattle.scripts.specs.declared.reading.Outcome.{Outcome}
 use Rattle.scripts.specs.declared.reading.Outcome.the-variants.{Accepted}
 use Rattle.scripts.specs.Script.{scriptOf}

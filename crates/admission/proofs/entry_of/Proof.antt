@@ -1,13 +1,10 @@
 -- `admission::entry_of` meets its contract, call by call and by what the script and the queue have. Assumes nothing.
 use borrow.Author.Needs.{needs}
-use mathlib.Core.Path.{_≡_, sym, _∙_}
-use mathlib.Core.Bool.{true, false}
+use mathlib.Core.Path.{sym, _∙_}
 use native.Mathlib.Omega.{arith}
 use lib.ListN.{getD}
-use Rattle.tables.specs.Table.{memberOf}
-use Rattle.boosting.specs.Object.{reply, isEmpty, isCue, least}
+use Rattle.boosting.specs.Object.{reply}
 use Rattle.boosting.specs.Undo.{entryOf}
-use Rattle.store_words.specs.Words.{scriptIn, queueIn}
 use Rattle.admission.proofs.Entries.{least-none, least-first}
 use Rattle.admission.proofs.entry_of.Statement.{statement}
 use Rattle.admission.proofs.entry_of.Tie as tie

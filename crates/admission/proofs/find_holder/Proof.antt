@@ -133,7 +133,8 @@ returns-2 c =
     let m : memberOf key (take (getD w 60 0) w) ≡ true =
     sym (v .inv .4) ∙ member-hit key w (getD w 60 0) (v .j) h (omega (arith, v .inv)) (c .if3 .taken) in
     let n = c .before .before .before .before .before .if2 .taken in
-    let q = conflict ts (s .args .e) (cueLock key) (o .i) (omega (arith, s .pre .eight)) n (cue-conflict key w true m) in
+    let q =
+    conflict ts (s .args .e) (cueLock key) (o .i) (omega (arith, s .pre .eight)) n (cue-conflict key w true m) in
     sym (sym (o .inv .1) ∙ q)
 
 pub find-holder-spec : {M : Type 1} → statement M

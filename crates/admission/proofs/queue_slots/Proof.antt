@@ -1,7 +1,7 @@
 -- `admission::queue_slots` meets its contract: the slots counted and those left to count are all. Assumes nothing.
-use Prim.Native.Nat.{_-_, _+_, _*_, _≤_, _<_}
-use mathlib.Core.Path.{_≡_, refl}
-use mathlib.Core.List.{[], map}
+use Prim.Native.Nat.{_-_, _+_, _*_, _≤_}
+use mathlib.Core.Path.{_≡_}
+use mathlib.Core.List.{map}
 use native.Mathlib.Omega.{arith}
 use borrow.Author.Needs.{needs}
 use lib.ListN.{length, drop, getD}

@@ -1,11 +1,10 @@
 -- `admission::reserve_all` meets its contract: the slots from place i on are put in. Assumes nothing.
 use Prim.Native.Nat.{_+_, _-_, _*_, _≤_}
-use mathlib.Core.Path.{_≡_, refl, sym, _∙_}
+use mathlib.Core.Path.{_≡_, sym, _∙_}
 use mathlib.Core.List.{[], map}
 use native.Mathlib.Omega.{arith}
 use borrow.Author.Needs.{needs}
 use lib.ListN.{length, take, drop, getD}
-use Rattle.tables.specs.Table.{Ordered}
 use Rattle.boosting.specs.Room.{reservedBy}
 use Rattle.boosting.proofs.Slots.{in-ordered}
 use Rattle.transactions.specs.View.{transactionOf}
@@ -16,7 +15,8 @@ use Rattle.admission.proofs.reserve_all.Statement.{statement}
 use Rattle.admission.proofs.reserve_all.Tie as tie
 
 abbrev Inv-loop : tie.InvT-loop
-Inv-loop keys₀ script ts n₀ i₀ keys n i = (i ≤ 8) × (n + 16 * i ≤ 384) × (length keys ≡ 385) × (take n keys ≡ slotsFrom ts (scriptIn script) i)
+Inv-loop keys₀ script ts n₀ i₀ keys n i =
+    (i ≤ 8) × (n + 16 * i ≤ 384) × (length keys ≡ 385) × (take n keys ≡ slotsFrom ts (scriptIn script) i)
 
 abbrev μ-loop : tie.MeasureT-loop
 μ-loop keys₀ script ts n₀ i₀ keys n i = i
@@ -62,7 +62,8 @@ loop-less c = omega arith
 
 loop-again : tie.Need-loop-again Inv-loop μ-loop
 loop-again c =
-    let s = c .before .before .before .before .before .before .before .before .before .before .before .before .before .before in
+    let l = c .before .before .before .before .before .before .before in
+    let s = l .before .before .before .before .before .before .before in
     let v = c .before .before .before .before .before .before .loop in
     let p = c .before .before .reserve-log in
     let ts = s .args .ts .now in

@@ -3,6 +3,7 @@ use mathlib.Core.Path.{_∙_}
 use native.Mathlib.Omega.{arith}
 use borrow.Author.Needs.{needs}
 use lib.ListN.{take}
+use Rattle.tables.proofs.Laws.{ordered-weaken}
 use Rattle.admission.proofs.ScriptSlots.{slot-added, slot-removed, slot-pushed, slot-taken}
 use Rattle.admission.proofs.reserve_entry.Statement.{statement}
 use Rattle.admission.proofs.reserve_entry.Tie as tie
@@ -11,13 +12,17 @@ enum-known-entry : tie.Need-enum-known-entry
 enum-known-entry c = search needs
 
 put-once-requires : tie.Need-put-once-requires
-put-once-requires c κs = search needs
+put-once-requires c κs =
+    let s = c .before .before .before .before .before in
+    (s .pre .0, ordered-weaken 1 (take (s .args .n) (s .args .keys .now)) (s .pre .1))
 
 enum-known-entry-2 : tie.Need-enum-known-entry-2
 enum-known-entry-2 c = search needs
 
 put-once-requires-2 : tie.Need-put-once-requires-2
-put-once-requires-2 c κs = search needs
+put-once-requires-2 c κs =
+    let s = c .before .before .before .before .before in
+    (s .pre .0, ordered-weaken 1 (take (s .args .n) (s .args .keys .now)) (s .pre .1))
 
 enum-told : tie.Need-enum-told
 enum-told c = search needs

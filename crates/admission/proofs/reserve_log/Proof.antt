@@ -3,7 +3,6 @@ use Prim.Native.Nat.{_+_, _-_, _≤_}
 use mathlib.Core.Path.{_≡_, refl, _∙_}
 use native.Mathlib.Omega.{arith}
 use lib.ListN.{length, take, getD}
-use Rattle.tables.specs.Table.{Ordered}
 use Rattle.boosting.specs.Room.{reservedBy}
 use Rattle.transactions.specs.View.{entriesOf}
 use Rattle.transactions.specs.Code.{modelEntry}
@@ -12,7 +11,9 @@ use Rattle.admission.proofs.reserve_log.Statement.{statement}
 use Rattle.admission.proofs.reserve_log.Tie as tie
 
 abbrev Inv-loop : tie.InvT-loop
-Inv-loop keys₀ n t entries m₀ j₀ keys m j = (j ≤ entries) × (m ≤ n + j) × (length keys ≡ length keys₀) × (take m keys ≡ reservedBy (entriesOf j t) (take n keys₀))
+Inv-loop keys₀ n t entries m₀ j₀ keys m j =
+    (j ≤ entries) × (m ≤ n + j) × (length keys ≡ length keys₀)
+    × (take m keys ≡ reservedBy (entriesOf j t) (take n keys₀))
 
 abbrev μ-loop : tie.MeasureT-loop
 μ-loop keys₀ n t entries m₀ j₀ keys m j = entries - j

@@ -1,11 +1,9 @@
 -- `admission::script_full` meets its contract: by the bound, or by the slots put in a table. Assumes nothing.
-use Prim.Native.Nat.{_≤_}
 use mathlib.Core.Path.{_≡_, refl, sym, _∙_}
 use mathlib.Core.List.{map}
 use native.Mathlib.Omega.{arith}
 use borrow.Author.Needs.{needs}
 use lib.ListN.{length, take}
-use Rattle.tables.specs.Table.{Ordered}
 use Rattle.tables.proofs.Laws.{ordered-weaken}
 use Rattle.boosting.specs.Room.{reservedIn}
 use Rattle.boosting.proofs.Slots.{in-ordered}

@@ -1,6 +1,6 @@
 -- `admission::slots_at_most` meets its contract: from place i on there are no more slots than counted. Assumes nothing.
 use Prim.Native.Nat.{_+_, _-_, _*_, _≤_}
-use mathlib.Core.Path.{_≡_, refl}
+use mathlib.Core.Path.{_≡_}
 use mathlib.Core.List.{[]}
 use native.Mathlib.Omega.{arith}
 use borrow.Author.Needs.{needs}
@@ -14,7 +14,8 @@ use Rattle.admission.proofs.slots_at_most.Statement.{statement}
 use Rattle.admission.proofs.slots_at_most.Tie as tie
 
 abbrev Inv-loop : tie.InvT-loop
-Inv-loop script ts slots₀ i₀ slots i = (i ≤ 8) × (slots + 16 * i ≤ 384) × (length (slotsFrom ts (scriptIn script) i) ≤ slots)
+Inv-loop script ts slots₀ i₀ slots i =
+    (i ≤ 8) × (slots + 16 * i ≤ 384) × (length (slotsFrom ts (scriptIn script) i) ≤ slots)
 
 abbrev μ-loop : tie.MeasureT-loop
 μ-loop script ts slots₀ i₀ slots i = i

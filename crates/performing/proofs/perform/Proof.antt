@@ -45,7 +45,7 @@ close-requires c κs =
     let q = s .args .queue .now in
     let ts = s .args .ts .now in
     let e = s .args .e in
-    laws.words-fit x q ts e _ (s .pre .0) (s .pre .1) (s .pre .2)
+    laws.words-fit x q ts e _ (s .pre .0) (s .pre .1) (s .pre .2) .long
 
 enum-told-3 : tie.Need-enum-told-3
 enum-told-3 c = search needs

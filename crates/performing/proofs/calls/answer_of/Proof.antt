@@ -1,7 +1,7 @@
 -- `performing::calls::answer_of` meets its contract. Assumes nothing.
 use borrow.Author.Needs.{needs}
 use mathlib.Core.Path.{ap}
-use Rattle.steps.specs.declared.answers.Answer.the-variants.{Cue}
+use Rattle.answers.specs.declared.Answer.the-variants.{Cue}
 use Rattle.performing.proofs.calls.answer_of.Statement.{statement}
 use Rattle.performing.proofs.calls.answer_of.Tie as tie
 

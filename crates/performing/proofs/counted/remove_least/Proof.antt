@@ -1,7 +1,7 @@
 -- `performing::counted::remove_least` meets its contract. Assumes nothing.
 use borrow.Author.Needs.{needs}
 use Rattle.performing.proofs.Tables as laws
-use lib.ListN.{length, getD}
+use lib.ListN.{getD}
 use Rattle.performing.proofs.counted.remove_least.Statement.{statement}
 use Rattle.performing.proofs.counted.remove_least.Tie as tie
 

@@ -3,7 +3,7 @@ use borrow.Author.Needs.{needs}
 use Prim.Native.Nat.{_-_}
 use mathlib.Core.Path.{ap, sym, _∙_}
 use native.Mathlib.Omega.{arith}
-use Rattle.steps.specs.declared.answers.Answer.the-variants.{Ok}
+use Rattle.answers.specs.declared.Answer.the-variants.{Ok}
 use Rattle.boosting.specs.Store.{closed, aborting}
 use Rattle.boosting.specs.Rows.{abort}
 use Rattle.transactions.specs.Code.{modelStanding}

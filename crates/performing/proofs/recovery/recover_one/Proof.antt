@@ -48,9 +48,8 @@ returns c =
     let a = c .before .before .before .before .abort-open in
     record {
       is =
-          laws.one-recovered (storeOf x q ts) (storeOf (a .last .0) (a .last .1 .0) (a .last .1 .1 .0)) _ e (n .result) l
-          (a .ensures .is)
-          (c .roll-backs .ensures .is);
+          laws.one-recovered (storeOf x q ts) (storeOf (a .last .0) (a .last .1 .0) (a .last .1 .1 .0)) _ e (n .result)
+          l (a .ensures .is) (c .roll-backs .ensures .is);
       fits = c .roll-backs .ensures .fits;
     }
 

@@ -1,0 +1,3 @@
+-- What a written lock listing is, and what holds of it.
+pub mod Listed
+pub mod Theorems

@@ -1,0 +1,5 @@
+-- Laws of opening, of stepping and of writing, over plain lists.
+pub mod Opened
+pub mod Requests
+pub mod Steps
+pub mod Written

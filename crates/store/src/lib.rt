@@ -1,0 +1,16 @@
+// The store in words that the caller lends: opened from a script text, stepped by raw lines, written out.
+//
+// The script has 257 words, the queue 65, and each of the eight transactions a record of 64 (`store_words`); they are
+// altered where they stand. `open` fills words of any contents. Every other function asks for what `open` establishes
+// and every step keeps (`StoreFits`), and none asks anything of the bytes of a text or a line.
+mod opening;
+mod stepping;
+mod texts;
+
+pub use opening::open;
+pub use performing::recovery::recover;
+pub use stepping::step;
+pub use texts::queue_length;
+pub use texts::script_length;
+pub use texts::write_queue;
+pub use texts::write_script;

@@ -1,0 +1,2 @@
+-- What a value holds, and what a step gives.
+pub mod Values
