@@ -2,15 +2,17 @@
 //!
 //!     LIZKORPE_STATICLIB=folder cargo run --release -p bench
 
-use differential::library::{self, ROOM};
+use differential::library::{self, DESK_ROOM, FORMAT_ROOM};
 use generate::random::Random;
+use generate::steps::{self, Workload};
 use generate::texts;
 use reference::script::{self, LONGEST_TEXT, MOST_CUES};
-use reference::stamp;
+use reference::{session, stamp};
 use std::hint::black_box;
 use std::time::Instant;
 
 const FORMAT_ROUNDS: usize = 501;
+const DESK_ROUNDS: usize = 501;
 const STAMP_ROUNDS: usize = 21;
 const STAMP_BYTES: usize = 64 << 20;
 
@@ -24,7 +26,7 @@ fn main() {
 
     println!("Median of {FORMAT_ROUNDS} rounds ({STAMP_ROUNDS} for the stamp) after a warm-up of a tenth as many; the");
     println!("two sides take turns at going first. Lizkorpe writes to one lent buffer, not cleared between rounds;");
-    println!("plain Rust returns a new vector.\n");
+    println!("plain Rust formats into a new vector, and its desk appends to one vector with room for all.\n");
     println!("| workload | plain Rust | Lizkorpe | Lizkorpe / Rust |");
     println!("|---|--:|--:|--:|");
     format_row("read and write 65,536 bytes, 256 different cues", &many);
@@ -32,11 +34,47 @@ fn main() {
     format_row("read and write the normal form of 256 cues", &normal);
     format_row("read 65,536 bytes, last line malformed", &refused);
     stamp_row("stamp of 64 MiB", &random.bytes(STAMP_BYTES));
+
+    println!("\n| the desk, 65,536 bytes | steps | waiting | plain Rust | Lizkorpe | Lizkorpe / Rust | Lizkorpe |");
+    println!("|---|--:|--:|--:|--:|--:|--:|");
+    for (name, workload) in [
+        ("many different cues", Workload::ManyCues),
+        ("few cues and much waiting", Workload::Waiting),
+        ("a nearly full script", Workload::NearlyFull),
+    ] {
+        desk_row(name, &steps::full(&mut random, workload, LONGEST_TEXT));
+    }
+}
+
+/// A row of the desk's table, in nanoseconds for each step; and how many of the steps were told to wait.
+fn desk_row(workload: &str, input: &[u8]) {
+    let mut buffer = vec![0; DESK_ROOM];
+    let mut output = Vec::with_capacity(DESK_ROOM);
+    session::append(input, &mut output);
+    let length = library::desk(input, &mut buffer);
+    assert_eq!(length, output.len() as u64, "{workload}: the lengths differ");
+    assert_eq!(buffer[..output.len()], output, "{workload}: the bytes differ");
+    let (_, list) = session::read(input).expect("the start is accepted");
+    let steps = script::lines(list).count() as f64;
+    let waiting = script::lines(&output).filter(|line| line.starts_with(b"refused,8,")).count() as f64;
+
+    let plain = || {
+        output.clear();
+        session::append(black_box(input), black_box(&mut output));
+    };
+    let proved = || library::desk(black_box(input), black_box(&mut buffer));
+    let (plain, proved) = medians(DESK_ROUNDS, plain, proved);
+    let [rust, ours] = [plain, proved].map(|seconds| format!("{:.1} ns/step", seconds * 1e9 / steps));
+    let (share, speed) = (100.0 * waiting / steps, steps / proved / 1e6);
+    println!(
+        "| {workload} | {steps} | {share:.0} % | {rust} | {ours} | {:.2} | {speed:.1} M steps/s |",
+        proved / plain
+    );
 }
 
 /// A row of the table, in nanoseconds for each line of the text.
 fn format_row(workload: &str, text: &[u8]) {
-    let mut buffer = [0; ROOM];
+    let mut buffer = [0; FORMAT_ROOM];
     let expected = script::format(text);
     let length = library::format(text, &mut buffer);
     assert_eq!(length, expected.len() as u64, "{workload}: the lengths differ");

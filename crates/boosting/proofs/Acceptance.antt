@@ -71,7 +71,7 @@ use Rattle.boosting.specs.Acceptance.{
 -- ---- a test that fails refutes its theorem
 
 by-term-3 : Term3Rising → (c : Case) → scriptOf (c .start) .0 ≡ Accepted → Term3At c
-by-term-3 theorem c accepted = theorem (c .start) accepted (c .steps)
+by-term-3 theorem c accepted = (accepted, theorem (c .start) accepted (c .steps))
 
 by-keeping : OpenedIsSound → RunKeepsSound → (c : Case) → Sound (stepped c .store)
 by-keeping begins keeps c = keeps (opened (scriptOf (c .start) .1)) (c .steps) (begins (c .start))
@@ -169,17 +169,16 @@ unfolding transaction closedTransaction
 eight-closed d h zero = refl
 eight-closed d h (suc i) = ap (λ (ts : List Transaction). getD ts i closedTransaction .standing) h ∙ closed-at 8 i
 
-term-3-at : (c : Case)
+term-3-at : (c : Case) → scriptOf (c .start) .0 ≡ Accepted
     → EqualAnswers (heard (stepped c .past)) (replies (started (scriptOf (c .start) .1)) (fed (stepped c .past)))
     → EqualStates (recover (stepped c .store) rising .state)
     (replay (started (scriptOf (c .start) .1)) (fed (stepped c .past)))
     → recover (stepped c .store) rising .transactions ≡ replicate 8 closedTransaction
     → Term3At c
-term-3-at c a s t = record {
-  state = equal-states _ _ s;
-  answers = equal-answers _ _ a;
-  all-closed = eight-closed _ t;
-}
+term-3-at c p a s t = (
+  p,
+  record { state = equal-states _ _ s; answers = equal-answers _ _ a; all-closed = eight-closed _ t },
+)
 
 -- ---- computed
 
@@ -195,15 +194,15 @@ computing = tt
 -- in front, because later cases have refused calls of committed edits too
 pub no-refused-call-in-the-replay : NoRefusedCallInTheReplay
 unfolding computing
-no-refused-call-in-the-replay = term-3-at fullQueue refl refl refl
+no-refused-call-in-the-replay = term-3-at fullQueue refl refl refl refl
 
 pub lock-for-no-and-empty : LockForNoAndEmpty
 unfolding computing
-lock-for-no-and-empty = term-3-at noAndEmpty refl refl refl
+lock-for-no-and-empty = term-3-at noAndEmpty refl refl refl refl
 
 pub locks-until-the-last-back : LocksUntilTheLastBack
 unfolding computing
-locks-until-the-last-back = term-3-at halfUndone refl refl refl
+locks-until-the-last-back = term-3-at halfUndone refl refl refl refl
 
 pub slot-until-its-edit-closes : SlotUntilItsEditCloses
 unfolding computing
@@ -211,15 +210,15 @@ slot-until-its-edit-closes = at-most (length (reserved (stepped fullScript .stor
 
 pub undo-newest-first : UndoNewestFirst
 unfolding computing
-undo-newest-first = term-3-at addThenRemove refl refl refl
+undo-newest-first = term-3-at addThenRemove refl refl refl refl
 
 pub commits-in-order : CommitsInOrder
 unfolding computing
-commits-in-order = term-3-at addedThenRemoved refl refl refl
+commits-in-order = term-3-at addedThenRemoved refl refl refl refl
 
 pub begin-is-a-new-edit : BeginIsANewEdit
 unfolding computing
-begin-is-a-new-edit = term-3-at begunAgain refl refl refl
+begin-is-a-new-edit = term-3-at begunAgain refl refl refl refl
 
 pub cue-locks-24 : CueLocks24
 unfolding computing

@@ -11,6 +11,7 @@ use Rattle.refusals.specs.declared.Refusal.the-variants.{Malformed as Malformed
 use Rattle.lines.specs.Ascii.{bytes}
 use Rattle.numbers.specs.Digits.{digitsOf}
 use Rattle.answers.specs.declared.Answer.the-variants.{Ok, Yes, No, Left, Refused}
+use Rattle.scripts.specs.declared.reading.Outcome.the-variants.{Accepted}
 use Rattle.scripts.specs.Script.{scriptOf}
 use Rattle.boosting.specs.Store.{opened, transaction}
 use Rattle.boosting.specs.Room.{reserved, queueSlots}
@@ -27,9 +28,11 @@ pub record Case : Type 0 where
 abbrev pub stepped : Case → Run
 stepped c = run (opened (scriptOf (c .start) .1)) (c .steps)
 
--- what `Term3Rising` says of one case
+-- `Term3Rising` at one case: its premise holds there, and what it says
 abbrev pub Term3At : Case → Type 0
-Term3At c = Serializable (scriptOf (c .start) .1) (stepped c .past) (recover (stepped c .store) rising)
+Term3At c =
+    (scriptOf (c .start) .0 ≡ Accepted)
+    × Serializable (scriptOf (c .start) .1) (stepped c .past) (recover (stepped c .store) rising)
 
 -- the text of the n cues of module 1, pin 1 at times below n
 abbrev pub cuesBelow : ℕ → List ℕ

@@ -12,7 +12,7 @@ use Rattle.answers.specs.Answer.{answerText}
 use Rattle.answers.specs.declared.Answer.{Answer}
 use Rattle.boosting.specs.Store.{Store}
 use Rattle.boosting.specs.Step.{stepLine}
-use Rattle.boosting.specs.Run.{Event, Run, begun, advance, runFrom, run, answerAt, answers}
+use Rattle.boosting.specs.Run.{Event, begun, advance, runFrom, run, answerAt, answers}
 use Rattle.session.specs.Output.{answersText, answerLines}
 use Rattle.session.specs.Put.{Put}
 use Rattle.session.proofs.Puts.{put-room}

@@ -1,19 +1,18 @@
 -- Laws of the place of the first line `steps`, and of the two texts that it divides. Assumes nothing.
 use mathlib.Core.Path.{_≡_, refl, sym, ap, _∙_}
-use mathlib.Core.Bool.{Bool, true, false, cond}
+use mathlib.Core.Bool.{Bool, true, false}
 use mathlib.Core.List.{List, [], _∷_, _++_}
 use mathlib.Core.Logic.{_⊎_, inl, inr}
 use Prim.Native.Nat.{ℕ, suc, _+_, _-_, _≤_, _<_, min}
 use native.Mathlib.Omega.{arith}
-use lib.ListN.{length, take, drop, drop-of-length-le, length-append, length-drop}
-use lib.Seq.{take-all, take-nil, drop-nil, take-append-add, drop-append-add}
+use lib.ListN.{length, take, drop, drop-of-length-le}
+use lib.Seq.{take-all, take-append-add, drop-append-add}
 use Rattle.lines.specs.Ascii.{bytes}
 use Rattle.lines.specs.Lines.{upTo, linesOf}
 use Rattle.lines.proofs.Laws.{lines-next, lines-end, lines-append, lt-or-ge}
-use Rattle.steps.specs.Word.{same}
 use Rattle.steps.proofs.Words.{same-true}
 use Rattle.session.specs.Division.{isSteps, stepsPlace, startText, stepList}
-use Rattle.session.specs.Theorems.{before, behind, Divided, DividedAtSteps}
+use Rattle.session.specs.Theorems.{before, behind, DividedAtSteps}
 use Rattle.session.proofs.Texts.{by-lines, lines-one, line-length}
 
 -- ---- one line
@@ -90,10 +89,8 @@ step-part s at e = by-case (lt-or-ge (length s) (stepsPlace (linesOf s) + 6))
         let q : at ≡ stepsPlace (linesOf s) + 6 = omega arith in ap (λ (x : ℕ). drop x s) q
 
 pub list-part : (s : List ℕ) (at from : ℕ) → at ≡ min (stepsPlace (linesOf s)) (length s)
-    → from ≡ min (at + 6) (length s) → take (length s - from) (drop from s) ≡ stepList s
-list-part s at from ea ef =
-    let n : length (drop from s) ≤ length s - from = omega (arith, length-drop from s) in
-    take-all (length s - from) (drop from s) n ∙ step-part s from (omega arith)
+    → from ≡ min (at + 6) (length s) → drop from s ≡ stepList s
+list-part s at from ea ef = step-part s from (omega arith)
 
 -- ---- the lines of the two texts
 -- a text of these lines, divided at the place p
@@ -111,10 +108,6 @@ nothing : (before [] ≡ []) × (behind [] ≡ []) × (stepsPlace [] ≡ 0)
 unfolding before behind stepsPlace
 nothing = (refl, refl, refl)
 
--- no text stands behind the end
-past-end : (s : List ℕ) (n : ℕ) → length s ≤ n → linesOf (drop n s) ≡ []
-past-end s n h = lines-end s n h
-
 steps-length : (l : List ℕ) → isSteps l ≡ true → length l ≡ 5
 steps-length l t = ap length (same-true l (bytes "steps") t)
 
@@ -129,14 +122,14 @@ divides-one s h u = rw (lines-one s h u) (by-test (isSteps s) refl)
     by-test true t =
         let b = before-here s [] t in
         let n = steps-length s t in
-        rw (steps-here s [] t) (no-lines ∙ sym (b .0), past-end s 6 (omega arith) ∙ sym (b .1))
+        rw (steps-here s [] t) (no-lines ∙ sym (b .0), lines-end s 6 (omega arith) ∙ sym (b .1))
     by-test false t =
         let b = before-later s [] t in
         let p : stepsPlace (s ∷ []) ≡ length s + 1 = omega (arith, steps-later s [] t, nothing .2) in
         rw p (
           ap linesOf (take-all (length s + 1) s (omega arith))
               ∙ (lines-one s h u ∙ (ap (λ (x : List (List ℕ)). s ∷ x) (sym (nothing .0)) ∙ sym (b .0))),
-          past-end s (length s + 1 + 6) (omega arith) ∙ (sym (nothing .1) ∙ sym (b .1)),
+          lines-end s (length s + 1 + 6) (omega arith) ∙ (sym (nothing .1) ∙ sym (b .1)),
         )
 
 divides-more : (l r : List ℕ) → upTo 10 l ≡ length l → DividesAs r → DividesAs (l ++ 10 ∷ r)

@@ -1,5 +1,5 @@
 -- How long the output can be. Assumes nothing.
-use mathlib.Core.Path.{_≡_, refl, sym, ap, _∙_}
+use mathlib.Core.Path.{_≡_, refl, ap, _∙_}
 use mathlib.Core.Bool.{Bool, true, false, cond}
 use mathlib.Core.List.{List, [], _∷_, _++_}
 use mathlib.Core.Logic.{_⊎_, inl, inr}
@@ -32,7 +32,7 @@ use Rattle.lines.specs.Lines.{upTo, linesOf}
 use Rattle.lines.proofs.Laws.{lines-append}
 use Rattle.numbers.specs.Digits.{digitsAt, digitsOf}
 use Rattle.numbers.proofs.Laws.{digits-at-most}
-use Rattle.records.specs.Record.{fieldText, recordText}
+use Rattle.records.specs.Record.{fieldText}
 use Rattle.records.proofs.Laws.{field-length, record-length}
 use Rattle.cues.specs.Cue.{cueOf}
 use Rattle.cues.specs.CueText.{cueText}
@@ -57,8 +57,7 @@ use Rattle.steps.specs.declared.reading.Step.the-variants.{
   RollBack,
   Malformed,
 }
-use Rattle.answers.specs.declared.Answer.{Answer}
-use Rattle.answers.specs.declared.Answer.the-variants.{Ok, Left, Refused}
+use Rattle.answers.specs.declared.Answer.the-variants.{Left}
 use Rattle.steps.specs.Step.{stepOf}
 use Rattle.steps.specs.StepText.{stepText}
 use Rattle.answers.specs.Answer.{refusalText, answerText}
@@ -250,7 +249,7 @@ list-length word keys =
       field-length (length keys) 10,
     )
 
-pub closing-length : (s : State)
+closing-length : (s : State)
     → length (closingText s)
     ≡ length (listText (bytes "script,") (s .script)) + length (listText (bytes "queue,") (s .queue))
 unfolding closingText

@@ -11,10 +11,10 @@ use Rattle.numbers.specs.Digits.{digitsOf}
 use Rattle.records.specs.Record.{fieldText}
 use Rattle.scripts.specs.Script.{keysIn}
 use Rattle.scripts.specs.ScriptText.{textOf}
-use Rattle.store_words.specs.Words.{scriptIn, queueIn, stateOf, ScriptFits, QueueFits}
+use Rattle.store_words.specs.Words.{scriptIn, stateOf, ScriptFits, QueueFits}
 use Rattle.session.specs.Output.{listText, closingText}
 use Rattle.session.specs.Put.{Put}
-use Rattle.session.proofs.Fitting.{list-length, closing-length}
+use Rattle.session.proofs.Fitting.{list-length}
 use Rattle.session.proofs.Puts.{put-as, put-both, second-room}
 
 -- ---- one list

@@ -1,10 +1,10 @@
 -- What is printed, by the outcome of the start text. Assumes nothing.
 use mathlib.Core.Path.{_≡_, sym, ap, _∙_}
 use mathlib.Core.List.{List, _++_}
-use Prim.Native.Nat.{ℕ, _+_, _≤_, _<_}
+use Prim.Native.Nat.{ℕ, _+_, _-_, _≤_, _<_}
 use native.Mathlib.Omega.{arith}
-use lib.Dec.{ltb}
-use lib.ListN.{length}
+use lib.ListN.{length, take, drop, length-drop}
+use lib.Seq.{take-all}
 use borrow.Author.Tests.{lt-ltb, le-ltb}
 use Rattle.refusals.specs.Refusal.{refusalNumber}
 use Rattle.refusals.specs.declared.Refusal.{Refusal}
@@ -20,8 +20,12 @@ use Rattle.boosting.specs.Object.{State}
 use Rattle.boosting.specs.Store.{Store, opened}
 use Rattle.boosting.specs.Run.{run}
 use Rattle.boosting.specs.Recovery.{recover, rising}
+use Rattle.store_words.specs.Words.{storeOf}
+use Rattle.session.specs.declared.starting.Start.{Start}
+use Rattle.session.specs.declared.starting.Start.the-variants.{Steps, Refused as RefusedStart}
 use Rattle.session.specs.Division.{startText, stepList}
 use Rattle.session.specs.Output.{answerLines, closingText, recovered, runText, startRefused, outputOf}
+use Rattle.session.specs.Started.{Running, Started}
 use Rattle.session.proofs.Fitting.{run-length, refused-length}
 
 -- ---- the three cases
@@ -48,6 +52,24 @@ pub output-run : (s start steps : List ℕ) (o : Outcome) (d : Store) → length
 output-run s start steps o d h es et eo e ed =
     let q : scriptOf (startText s) .0 ≡ Accepted = rw (← es) (sym eo ∙ e) in
     rw (ed, es, et) (sym (output-accepted s h q))
+
+-- ---- the start of a session
+-- what its answer says, by cases
+pub starts-refused : (s q : List ℕ) (ts : List (List ℕ)) (input : List ℕ) (x : Start) (r : Refusal) (line : ℕ)
+    → x ≡ RefusedStart r line → Started s q ts input x → startRefused r line ≡ outputOf input
+starts-refused s q ts input x r line e h = rw e at h
+
+pub starts-running : (s q : List ℕ) (ts : List (List ℕ)) (input : List ℕ) (x : Start) (from : ℕ)
+    → x ≡ Steps from → Started s q ts input x → Running s q ts input from
+starts-running s q ts input x from e h = rw e at h
+
+-- the step list, as the code cuts it out
+pub part-prints : (s q : List ℕ) (ts : List (List ℕ)) (input : List ℕ) (from : ℕ) → Running s q ts input from
+    → runText (storeOf s q ts) (linesOf (take (length input - from) (drop from input))) ≡ outputOf input
+part-prints s q ts input from v =
+    let n : length (drop from input) ≤ length input - from = omega (arith, length-drop from input) in
+    ap (λ (x : List ℕ). runText (storeOf s q ts) (linesOf x)) (take-all (length input - from) (drop from input) n)
+    ∙ v .prints
 
 -- ---- the refused start
 pub refused-text : (r : Refusal) (line n : ℕ) → n ≡ refusalNumber r

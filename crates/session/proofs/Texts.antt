@@ -55,7 +55,8 @@ lines-one (b ∷ bs) h u =
     ∙ rw (u, take-all (length (b ∷ bs)) (b ∷ bs) (omega arith), drop-of-length-le (b ∷ bs) n)
 
 -- the line at a place, as the code cuts it out
-pub line-length : (s : List ℕ) (at end : ℕ) → end ≡ at + upTo 10 (drop at s) → length (take (end - at) (drop at s)) ≡ end - at
+pub line-length : (s : List ℕ) (at end : ℕ) → end ≡ at + upTo 10 (drop at s)
+    → length (take (end - at) (drop at s)) ≡ end - at
 line-length s at end e =
     let d : end - at ≡ upTo 10 (drop at s) = omega arith in
     length-take-le (end - at) (drop at s) (omega (arith, up-le 10 (drop at s)))

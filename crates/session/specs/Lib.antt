@@ -2,4 +2,5 @@
 pub mod Division
 pub mod Output
 pub mod Put
+pub mod Started
 pub mod Theorems

@@ -7,6 +7,7 @@ mod answering;
 mod closing;
 mod dividing;
 mod running;
+mod starting;
 
 pub use running::ROOM;
 pub use running::run_session;

@@ -1,29 +1,23 @@
-// A whole session: the store opened, stepped and recovered, and what it prints.
+// A whole session: the store started, stepped and recovered, and what it prints.
 ghost use mathlib.Core.Path.{_≡_};
 ghost use Prim.Native.Nat.{_≤_};
 ghost use lib.ListN.{length};
 ghost use Rattle.buffers.specs.Written.{writtenAt};
 ghost use Rattle.lines.specs.Lines.{linesOf};
 ghost use Rattle.store_words.specs.Words.{storeOf, StoreFits};
-ghost use Rattle.session.specs.Output.{runText, startRefused, outputOf};
+ghost use Rattle.session.specs.Output.{runText, outputOf};
 ghost use Rattle.session.specs.Put.{Put};
 use crate::answering::answers_length;
 use crate::answering::put_answers;
 use crate::closing::closing_length;
 use crate::closing::put_closing;
-use crate::dividing::find_steps;
-use crate::dividing::steps_from;
+use crate::starting::Start;
+use crate::starting::put_refused;
+use crate::starting::refused_length;
+use crate::starting::start_session;
 use buffers::Written;
-use numbers::digit_count;
-use records::write_record;
 use refusals::Refusal;
-use refusals::refusal_number;
-use scripts::Outcome;
-use store::open;
 use store::recover;
-
-// The most bytes that an input may have.
-const LIMIT: usize = 65536;
 
 // As many bytes hold the output of every input.
 pub const ROOM: usize = 659860;
@@ -64,41 +58,17 @@ fn run_length(
     sum + closing_length(script, queue)
 }
 
-// Puts the line `start,n,line` of a refused start to the front of the buffer, where it fits.
-fn put_refused(buf: &mut [u8], refusal: Refusal, line: usize) -> usize
-    requires { ⌜ length (startRefused refusal line) ≤ length (now buf) ⌝ }
-    ensures { λ r. ⌜ Put (now (buf .entry)) 0 (startRefused refusal line) r (now (buf .exit)) ⌝ }
-{
-    let Written::Upto(end) = write_record(buf, 0, b"start", refusal_number(refusal), line as u64)
-    else {
-        return 0;
-    };
-    end
-}
-
-// How many bytes that line has.
-fn refused_length(refusal: Refusal, line: usize) -> usize
-    ensures { λ r. ⌜ r ≡ length (startRefused refusal line) ⌝ }
-{
-    8 + digit_count(refusal_number(refusal)) + digit_count(line as u64)
-}
-
 // Puts the whole output of an input to the front of the buffer, where it fits.
 fn put_session(buf: &mut [u8], input: &[u8]) -> usize
     requires { ⌜ length (outputOf (now input)) ≤ length (now buf) ⌝ }
     ensures { λ r. ⌜ Put (now (buf .entry)) 0 (outputOf (now (input .entry))) r (now (buf .exit)) ⌝ }
 {
-    if LIMIT < input.len() {
-        return put_refused(buf, Refusal::TextTooLong, 0);
-    }
     let mut script = [0u64; 257];
     let mut queue = [0u64; 65];
     let mut ts = [[0u64; 64]; 8];
-    let at = find_steps(input);
-    let from = steps_from(input, at);
-    match open(&mut script, &mut queue, &mut ts, &input[..at]) {
-        Outcome::Accepted => put_run(buf, &mut script, &mut queue, &mut ts, &input[from..]),
-        Outcome::Refused(refusal, line) => put_refused(buf, refusal, line),
+    match start_session(&mut script, &mut queue, &mut ts, input) {
+        Start::Steps(from) => put_run(buf, &mut script, &mut queue, &mut ts, &input[from..]),
+        Start::Refused(refusal, line) => put_refused(buf, refusal, line),
     }
 }
 
@@ -106,17 +76,12 @@ fn put_session(buf: &mut [u8], input: &[u8]) -> usize
 pub fn session_length(input: &[u8]) -> usize
     ensures { λ r. ⌜ r ≡ length (outputOf (now (input .entry))) ⌝ }
 {
-    if LIMIT < input.len() {
-        return refused_length(Refusal::TextTooLong, 0);
-    }
     let mut script = [0u64; 257];
     let mut queue = [0u64; 65];
     let mut ts = [[0u64; 64]; 8];
-    let at = find_steps(input);
-    let from = steps_from(input, at);
-    match open(&mut script, &mut queue, &mut ts, &input[..at]) {
-        Outcome::Accepted => run_length(&mut script, &mut queue, &mut ts, &input[from..]),
-        Outcome::Refused(refusal, line) => refused_length(refusal, line),
+    match start_session(&mut script, &mut queue, &mut ts, input) {
+        Start::Steps(from) => run_length(&mut script, &mut queue, &mut ts, &input[from..]),
+        Start::Refused(refusal, line) => refused_length(refusal, line),
     }
 }
 

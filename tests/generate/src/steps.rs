@@ -1,11 +1,14 @@
 //! Inputs of the whole program to try: a start script, the line `steps` and a step list. The lists have from
 //! none to thousands of lines; they differ in which cues, edits and calls are frequent, and so in what they meet.
+//! Any of them can be stopped at a random place, or recovered in a random order.
 
 use crate::random::Random;
 use crate::texts;
 use reference::cue::Cue;
-use reference::desk::{EDITS, MOST_ENTRIES};
-use reference::script::{LONGEST_TEXT, MOST_CUES};
+use reference::desk::{Desk, EDITS, MOST_ENTRIES};
+use reference::script::{self, LONGEST_TEXT, MOST_CUES};
+use reference::session;
+use std::array;
 
 const WORDS: [&str; 10] = ["begin", "commit", "undo", "back", "add", "remove", "has", "push", "min", "take"];
 const CALLS: [&str; 6] = ["add", "remove", "has", "push", "min", "take"];
@@ -43,13 +46,106 @@ const BOUNDS: &[&str] = &[
      remove,2,1500,4,12\ncommit,1\nmin,2\nundo,2\nback,2\n",
 ];
 
-/// Inputs that every run tries.
-pub fn fixed() -> Vec<Vec<u8>> {
-    BOUNDS.iter().map(|input| input.as_bytes().to_vec()).collect()
+/// What step lists are made of, and some bytes that they refuse.
+const PIECES: &[&str] = &[
+    "steps\n", "begin", "commit", "undo", "back", "add", "remove", "has", "push", "min", "take", "0,1,1\n", ",0,1,1\n",
+    ",1\n", ",1", ",2", ",8", ",9", ",33", "0", ",", ",", "\n", "\n", "\r", " ", "-", "\0",
+];
+
+/// Inputs that every run tries: those at the bounds, and full ones of each kind. One has the most lines, all empty.
+pub fn fixed(random: &mut Random) -> Vec<Vec<u8>> {
+    let mut inputs: Vec<Vec<u8>> = BOUNDS.iter().map(|input| input.as_bytes().to_vec()).collect();
+    for size in LONGEST_TEXT - 1..=LONGEST_TEXT + 1 {
+        inputs.extend(Workload::ALL.map(|workload| full(random, workload, size)));
+        inputs.push([b"steps", "\n".repeat(size - 5).as_bytes()].concat());
+        inputs.push(random.bytes(size));
+    }
+    inputs
 }
 
 /// A random input.
 pub fn any(random: &mut Random) -> Vec<u8> {
+    match random.below(40) {
+        0 => texts::damaged(random, with_list),
+        1 => noise(random),
+        2 => texts::any(random),
+        3..12 => texts::without_last_byte(with_list(random)),
+        _ => with_list(random),
+    }
+}
+
+/// The input up to a random place: anywhere, or in the step list.
+pub fn stopped(random: &mut Random, input: &[u8]) -> Vec<u8> {
+    let steps = session::read(input).map_or(input.len(), |(_, steps)| steps.len());
+    let rest = if random.one_in(4) { input.len() } else { steps };
+    input[..input.len() - random.below(rest + 1)].to_vec()
+}
+
+/// The input and behind it the steps that recover its unclosed edits, in a random order of their numbers. There is
+/// none where the start is refused or the bytes become too many.
+pub fn recovered(random: &mut Random, input: &[u8]) -> Option<Vec<u8>> {
+    let (start, steps) = session::read(input).ok()?;
+    let mut desk = Desk::new(start);
+    for line in script::lines(steps) {
+        desk.step(line);
+    }
+    let mut recovered = input.to_vec();
+    if input.last().is_some_and(|&byte| byte != b'\n') {
+        recovered.push(b'\n');
+    }
+    recovered.extend(desk.recovery(order(random)));
+    (recovered.len() <= LONGEST_TEXT).then_some(recovered)
+}
+
+/// The numbers of all edits in a random order.
+pub fn order(random: &mut Random) -> [usize; EDITS] {
+    let mut order = array::from_fn(|index| index + 1);
+    random.shuffle(&mut order);
+    order
+}
+
+/// What a full input makes the desk do most.
+#[derive(Clone, Copy, Debug)]
+pub enum Workload {
+    /// Many different cues, so that edits are seldom in each other's way.
+    ManyCues,
+    /// A few cues, for which eight edits wait.
+    Waiting,
+    /// A start script that is nearly full.
+    NearlyFull,
+}
+
+impl Workload {
+    pub const ALL: [Workload; 3] = [Workload::ManyCues, Workload::Waiting, Workload::NearlyFull];
+}
+
+/// An input of exactly this size, with steps of all kinds and few odd lines.
+pub fn full(random: &mut Random, workload: Workload, size: usize) -> Vec<u8> {
+    let (start, others) = match workload {
+        Workload::ManyCues => (0, 400),
+        Workload::Waiting => (0, 4),
+        Workload::NearlyFull => (MOST_CUES - 6, 60),
+    };
+    let cues = texts::different(random, &[], start + others);
+    let mut input = texts::lines(&cues[..start]);
+    let edits = (1..=EDITS).collect();
+    let mut list = List { calls: 12, undone: 4, odd: 200, ..List::of(cues, edits, WEIGHTS[0]) };
+    input.extend(b"steps\n");
+    list.extend(random, &mut input, LONGEST_TEXT, size);
+    input
+}
+
+/// Pieces of lines in any order, or bytes of every value.
+fn noise(random: &mut Random) -> Vec<u8> {
+    let size = random.below(60);
+    if random.one_in(3) {
+        return random.bytes(size);
+    }
+    (0..size).flat_map(|_| random.pick(PIECES).bytes()).collect()
+}
+
+/// An input with a random start script and a random step list.
+fn with_list(random: &mut Random) -> Vec<u8> {
     let (start, cues) = start_and_cues(random);
     let mut input = if random.one_in(50) { texts::any(random) } else { texts::lines(&start) };
     input.extend(b"steps\n");
@@ -61,20 +157,8 @@ pub fn any(random: &mut Random) -> Vec<u8> {
     };
     let few_places = start.len() + 8 > MOST_CUES;
     let weights = random.pick(if few_places { &WEIGHTS[..1 + SCRIPT_WEIGHTS] } else { &WEIGHTS });
-    let mut list = List::new(random, cues, weights);
-    for _ in 0..lines {
-        if input.len() >= size {
-            input.truncate(size);
-            break;
-        }
-        input.extend(list.line(random).bytes());
-        input.push(b'\n');
-    }
-    match random.below(40) {
-        0 => texts::damaged(random, |_| input.clone()),
-        1..10 => texts::without_last_byte(input),
-        _ => input,
-    }
+    List::any(random, cues, weights).extend(random, &mut input, lines, size);
+    input
 }
 
 /// A start script, and the cues of the steps: some of the script, and some that are not in it.
@@ -120,20 +204,32 @@ enum Guess {
 }
 
 impl List {
-    fn new(random: &mut Random, cues: Vec<Cue>, weights: [usize; CALLS.len()]) -> List {
-        let mut edits: Vec<usize> = (1..=EDITS).collect();
-        random.shuffle(&mut edits);
+    fn of(cues: Vec<Cue>, edits: Vec<usize>, weights: [usize; CALLS.len()]) -> List {
+        List { cues, edits, weights, calls: 5, undone: 2, pause: 1, odd: 20, guesses: [Guess::Closed; EDITS] }
+    }
+
+    fn any(random: &mut Random, cues: Vec<Cue>, weights: [usize; CALLS.len()]) -> List {
+        let mut edits = order(random).to_vec();
         edits.truncate(1 + random.below(EDITS));
         List {
-            cues,
-            edits,
-            weights,
             calls: random.pick(&[2, 5, 12, 60]),
             undone: random.pick(&[1, 2, 4, 20]),
             pause: random.pick(&[1, 10]),
             odd: random.pick(&[4, 20, 100]),
-            guesses: [Guess::Closed; EDITS],
+            ..List::of(cues, edits, weights)
         }
+    }
+
+    /// Appends at most so many lines, and cuts what is over the size.
+    fn extend(&mut self, random: &mut Random, input: &mut Vec<u8>, lines: usize, size: usize) {
+        for _ in 0..lines {
+            if input.len() >= size {
+                break;
+            }
+            input.extend(self.line(random).bytes());
+            input.push(b'\n');
+        }
+        input.truncate(size);
     }
 
     /// The next line without its LF.
@@ -174,7 +270,7 @@ impl List {
 /// The line of a step that may not fit its edit, or with something odd in one field or in how the fields are joined.
 fn odd_line(random: &mut Random, mut fields: Vec<String>) -> String {
     let at = random.below(fields.len());
-    match random.below(15) {
+    match random.below(16) {
         0 => fields.clear(),
         1 => drop(fields.remove(at)),
         2 => fields.insert(at, "1".into()),
@@ -189,6 +285,7 @@ fn odd_line(random: &mut Random, mut fields: Vec<String>) -> String {
             let above = ["3600000", "100", "33"][at];
             fields[2 + at] = random.pick(&["0", above, "257", "4000000"]).into();
         }
+        12 => fields = vec!["steps".into()],
         _ => {}
     }
     fields.join(",")

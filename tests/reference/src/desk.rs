@@ -145,6 +145,22 @@ impl Desk {
         }
     }
 
+    /// The step lines that recover in this order: of an open edit an `undo`, then `back` until the edit closes.
+    pub fn recovery(&self, order: impl IntoIterator<Item = usize>) -> Vec<u8> {
+        let mut text = Vec::new();
+        for number in order {
+            let Edit { phase, log, .. } = &self.edits[number - 1];
+            if *phase == Phase::Open {
+                write_fields(b"undo", &[number as u32], &mut text);
+            }
+            let backs = if *phase == Phase::Closed { 0 } else { log.len().max(1) };
+            for _ in 0..backs {
+                write_fields(b"back", &[number as u32], &mut text);
+            }
+        }
+        text
+    }
+
     /// One line for each lock and each mode that is held.
     pub fn lock_sheet(&self) -> Vec<u8> {
         let mut text = Vec::new();

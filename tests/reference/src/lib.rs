@@ -4,6 +4,7 @@
 pub mod answer;
 pub mod cue;
 pub mod desk;
+pub mod difference;
 pub mod queue;
 pub mod replay;
 pub mod script;

@@ -3,6 +3,9 @@
 
 use crate::answer::Answer;
 use crate::cue::Cue;
+use crate::difference::{Difference, equal};
+use crate::script;
+use crate::session::{self, write_list};
 use crate::step::{self, Action, Call, Step};
 use std::collections::{BTreeMap, BTreeSet};
 
@@ -41,6 +44,30 @@ pub fn replay<'a>(start: BTreeSet<Cue>, lines: impl IntoIterator<Item = (&'a [u8
         }
     }
     replay
+}
+
+/// Holds an output of the program against the replay, which learns from it only which lines were refused: the answers
+/// to the calls that it is fed and the closing lists must be the replay's. Gives how many calls those are, or what
+/// differs. For a refused start there is nothing to replay.
+pub fn check(input: &[u8], output: &[u8]) -> Result<usize, Difference> {
+    let Ok((start, steps)) = session::read(input) else { return Ok(0) };
+    let steps: Vec<&[u8]> = script::lines(steps).collect();
+    let lines: Vec<&[u8]> = output.split_inclusive(|&byte| byte == b'\n').collect();
+    let (answers, closing) = lines.split_at(steps.len().min(lines.len()));
+
+    let refused = answers.iter().map(|answer| answer.starts_with(b"refused,"));
+    let mut replay = replay(start, steps.into_iter().zip(refused));
+    for &(index, answer) in &replay.answers {
+        let mut line = Vec::new();
+        answer.write_line(&mut line);
+        equal(&format!("answer to step {} in the replay", index + 1), &line, answers[index])?;
+    }
+    replay.queue.sort();
+    let mut lists = Vec::new();
+    write_list(b"script", replay.script.len(), replay.script.iter().copied(), &mut lists);
+    write_list(b"queue", replay.queue.len(), replay.queue.iter().copied(), &mut lists);
+    equal("closing lists of the replay", &lists, &closing.concat())?;
+    Ok(replay.answers.len())
 }
 
 impl Replay {

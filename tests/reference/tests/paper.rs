@@ -286,14 +286,27 @@ mod locks {
 mod program {
     use super::*;
 
+    const INPUT: &str = "1500,4,12\n1500,2,7\nsteps\nbegin,1\nbegin,2\nadd,1,1500,2,9\nadd,2,1500,2,9\n\
+                         push,2,900,1,1\npush,1,900,1,1\nremove,2,1500,4,12\ncommit,1\nmin,2\nundo,2\nback,2\n";
+    const OUTPUT: &str = "ok\nok\nyes\nrefused,8,1\nok\nok\nyes\nok\ncue,900,1,1\nok\nleft,1\n\
+                          script,3\n1500,2,7\n1500,2,9\n1500,4,12\nqueue,1\n900,1,1\n";
+
     #[test]
     fn the_printed_run() {
-        let input = "1500,4,12\n1500,2,7\nsteps\nbegin,1\nbegin,2\nadd,1,1500,2,9\nadd,2,1500,2,9\npush,2,900,1,1\n\
-                     push,1,900,1,1\nremove,2,1500,4,12\ncommit,1\nmin,2\nundo,2\nback,2\n";
-        let output = "ok\nok\nyes\nrefused,8,1\nok\nok\nyes\nok\ncue,900,1,1\nok\nleft,1\n\
-                      script,3\n1500,2,7\n1500,2,9\n1500,4,12\nqueue,1\n900,1,1\n";
-        assert_eq!(run(input), output);
-        assert_eq!(run(input.strip_suffix('\n').unwrap()), output);
+        assert_eq!(run(INPUT), OUTPUT);
+        assert_eq!(run(INPUT.strip_suffix('\n').unwrap()), OUTPUT);
+    }
+
+    #[test]
+    fn the_replay_tells_wrong_outputs() {
+        let check = |output: &str| replay::check(INPUT.as_bytes(), output.as_bytes());
+        assert_eq!(check(OUTPUT), Ok(2));
+        let wrong_answer = OUTPUT.replacen("yes", "no", 1);
+        let wrong_script = OUTPUT.replace("1500,2,9\n", "");
+        let no_queue = OUTPUT.strip_suffix("900,1,1\n").unwrap();
+        for wrong in [&wrong_answer, &wrong_script, no_queue, "ok\n", ""] {
+            assert!(check(wrong).is_err(), "{wrong:?}");
+        }
     }
 
     #[test]
@@ -371,10 +384,13 @@ mod traps {
         desk.begin([1, 2, 3]).step("push,3,9,1,1", "ok").step("commit,3", "ok").step("take,1", "cue,9,1,1");
         desk.step("push,1,2,1,1", "ok").step("remove,2,0,1,1", "yes").step("add,2,4,1,1", "yes");
         desk.step("undo,2", "ok").step("back,2", "left,1");
-        let mut other = Worked { desk: desk.desk.clone() };
+        let [mut other, mut stepped] = [0, 1].map(|_| Worked { desk: desk.desk.clone() });
+        let lines = stepped.desk.recovery((1..=EDITS).rev());
+        assert_eq!(String::from_utf8_lossy(&lines), "back,2\nundo,1\nback,1\nback,1\n");
+        script::lines(&lines).for_each(|line| assert!(!stepped.desk.step(line).is_refused()));
         desk.desk.recover(1..=EDITS);
         other.desk.recover((1..=EDITS).rev());
-        for settled in [&mut desk, &mut other] {
+        for settled in [&mut desk, &mut other, &mut stepped] {
             settled.script("0,1,1\n").queue("9,1,1\n").locks([]);
         }
     }

@@ -1,43 +1,45 @@
 //! One input through the desk and through the replay.
 
-use crate::met::Met;
+use generate::met::Met;
 use generate::random::Random;
+use generate::steps;
 use reference::answer::Answer;
 use reference::cue::Cue;
-use reference::desk::{Desk, EDITS, MOST_QUEUED};
-use reference::replay::{self, Replay};
-use reference::script::{self, LONGEST_TEXT, MOST_CUES, Refused, TOO_LONG};
+use reference::desk::{Desk, MOST_QUEUED};
+use reference::difference::equal;
+use reference::replay;
+use reference::script::{self, MOST_CUES};
 use reference::session;
-use std::array;
 use std::collections::BTreeSet;
+use std::error::Error;
 use std::fmt::Debug;
 
 /// One step in so many shows, if it is refused, whether it left the desk as it was.
 const STEPS_PER_COPY: usize = 16;
 
-/// Gives each step to the desk, and recovers a copy of it at two random places and at the end.
-pub fn compare(random: &mut Random, input: &[u8], met: &mut Met) -> Result<(), String> {
-    let (start, steps) = session::split(input);
-    let start = match script::read(start) {
-        _ if input.len() > LONGEST_TEXT => Err(Refused { number: TOO_LONG, line: 0 }),
-        start => start,
-    };
-    let expected = match start {
+/// Gives each step to the desk, and recovers a copy of it at two random places and at the end; holds the output of the
+/// whole program against the replay, also where steps recover. Gives how many calls the replay was fed.
+pub fn compare(random: &mut Random, input: &[u8], met: &mut Met) -> Result<usize, Box<dyn Error>> {
+    let output = session::run(input);
+    met.count(input, &output);
+    let (start, steps) = match session::read(input) {
+        Ok(accepted) => accepted,
         Err(refused) => {
-            met.start(refused.number);
-            format!("start,{},{}\n", refused.number, refused.line).into_bytes()
-        }
-        Ok(start) => {
-            let mut run = Run { desk: Desk::new(start.clone()), start, lines: Vec::new(), answers: Vec::new() };
-            run.steps(random, &script::lines(steps).collect::<Vec<_>>())?;
-            run.answers.iter().for_each(|&answer| met.answer(answer));
-            let replay = run.settle(random)?;
-            met.fed += replay.answers.len();
-            printed(&run.answers, &replay)
+            let expected = format!("start,{},{}\n", refused.number, refused.line);
+            equal("output", expected.as_bytes(), &output)?;
+            return Ok(0);
         }
     };
-    let [expected, found] = [expected, session::run(input)].map(|text| String::from_utf8_lossy(&text).into_owned());
-    same("output of the session", &expected, &found)
+    let mut run = Run { desk: Desk::new(start.clone()), start, lines: Vec::new(), answers: Vec::new() };
+    run.steps(random, &script::lines(steps).collect::<Vec<_>>())?;
+    run.settle(random)?;
+    let mut answers = Vec::new();
+    run.answers.iter().for_each(|answer| answer.write_line(&mut answers));
+    equal("answers of the program", &answers, &output[..answers.len().min(output.len())])?;
+    if let Some(recovered) = steps::recovered(random, input) {
+        replay::check(&recovered, &session::run(&recovered))?;
+    }
+    Ok(replay::check(input, &output)?)
 }
 
 /// A desk with the lines that it was given and its answers.
@@ -49,7 +51,7 @@ struct Run<'a> {
 }
 
 impl<'a> Run<'a> {
-    fn steps(&mut self, random: &mut Random, lines: &[&'a [u8]]) -> Result<(), String> {
+    fn steps(&mut self, random: &mut Random, lines: &[&'a [u8]]) -> Result<(), Box<dyn Error>> {
         let stops = [0, 1].map(|_| random.below(lines.len() + 1));
         for (index, line) in lines.iter().enumerate() {
             if stops.contains(&index) {
@@ -60,7 +62,7 @@ impl<'a> Run<'a> {
         Ok(())
     }
 
-    fn step(&mut self, line: &'a [u8], copy: bool) -> Result<(), String> {
+    fn step(&mut self, line: &'a [u8], copy: bool) -> Result<(), Box<dyn Error>> {
         let before = copy.then(|| self.desk.clone());
         let answer = self.desk.step(line);
         self.lines.push(line);
@@ -72,11 +74,9 @@ impl<'a> Run<'a> {
     }
 
     /// Recovers a copy of the desk in a random order of edits, and compares it and the answers with the replay.
-    fn settle(&self, random: &mut Random) -> Result<Replay, String> {
-        let mut order: [usize; EDITS] = array::from_fn(|index| index + 1);
-        random.shuffle(&mut order);
+    fn settle(&self, random: &mut Random) -> Result<(), Box<dyn Error>> {
         let mut desk = self.desk.clone();
-        desk.recover(order);
+        desk.recover(steps::order(random));
 
         let lines = self.lines.iter().zip(&self.answers).map(|(&line, answer)| (line, answer.is_refused()));
         let mut replay = replay::replay(self.start.clone(), lines);
@@ -91,23 +91,15 @@ impl<'a> Run<'a> {
         same(&place("places of the script"), &replay.script.len(), &desk.script_places())?;
         same(&place("places of the queue"), &replay.queue.len(), &desk.queue_places())?;
         same(&place("script in its room"), &true, &(replay.script.len() <= MOST_CUES))?;
-        same(&place("queue in its room"), &true, &(replay.queue.len() <= MOST_QUEUED))?;
-        Ok(replay)
+        same(&place("queue in its room"), &true, &(replay.queue.len() <= MOST_QUEUED))
     }
 }
 
-/// What the program prints if these are the answers and the replay is right.
-fn printed(answers: &[Answer], replay: &Replay) -> Vec<u8> {
-    let mut text = Vec::new();
-    answers.iter().for_each(|answer| answer.write_line(&mut text));
-    text.extend(format!("script,{}\n", replay.script.len()).bytes());
-    replay.script.iter().for_each(|cue| cue.write_line(&mut text));
-    text.extend(format!("queue,{}\n", replay.queue.len()).bytes());
-    replay.queue.iter().for_each(|cue| cue.write_line(&mut text));
-    text
-}
-
 /// Nothing if the two are equal.
-fn same<T: Debug + PartialEq>(place: &str, expected: &T, found: &T) -> Result<(), String> {
-    if expected == found { Ok(()) } else { Err(format!("{place}\n  expected {expected:?}\n  found    {found:?}")) }
+fn same<T: Debug + PartialEq>(place: &str, expected: &T, found: &T) -> Result<(), Box<dyn Error>> {
+    if expected == found {
+        Ok(())
+    } else {
+        Err(format!("{place}\n  expected {expected:?}\n  found    {found:?}").into())
+    }
 }

@@ -5,11 +5,10 @@
 //!     cargo run --release -p self_test -- 20000 1
 
 mod compare;
-mod met;
 
+use generate::met::Met;
 use generate::random::Random;
 use generate::steps;
-use met::Met;
 use std::env;
 use std::process::ExitCode;
 
@@ -25,11 +24,16 @@ fn main() -> ExitCode {
     // Chooses the stops and orders. It is not the lists' generator: a failure does not change later lists.
     let mut stops = Random::new(!seed);
     let mut met = Met::default();
+    let mut fed = 0;
     let (mut passed, mut failed) = (0, 0);
+    let fixed = steps::fixed(&mut random);
     let random_inputs = (0..count).map(|_| steps::any(&mut random));
-    for (index, input) in steps::fixed().into_iter().chain(random_inputs).enumerate() {
+    for (index, input) in fixed.into_iter().chain(random_inputs).enumerate() {
         match compare::compare(&mut stops, &input, &mut met) {
-            Ok(()) => passed += 1,
+            Ok(calls) => {
+                passed += 1;
+                fed += calls;
+            }
             Err(difference) => {
                 failed += 1;
                 if failed <= PRINTED {
@@ -38,9 +42,9 @@ fn main() -> ExitCode {
             }
         }
     }
-    println!("{met}");
+    println!("{met}\n{fed} calls fed to the replay");
     // A case that was never met counts as a failure.
-    failed += met.never();
+    failed += met.never() + usize::from(fed == 0);
     println!("{passed} passed, {failed} failed");
     if failed == 0 { ExitCode::SUCCESS } else { ExitCode::FAILURE }
 }

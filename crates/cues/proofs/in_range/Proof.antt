@@ -1,38 +1,44 @@
 -- `cues::in_range` meets its contract: each test decides one conjunct. Assumes nothing.
+use native.Mathlib.Omega.{arith}
 use borrow.Author.Tests.{le-leb, lt-leb}
 use Rattle.cues.proofs.in_range.Statement.{statement}
 use Rattle.cues.proofs.in_range.Tie as tie
 
 returns : tie.Need-returns
-returns c = simp (lt-leb _ _ (c .if1 .taken))
+returns c = let a = c .before .args in simp (lt-leb (a .time) 3599999 (omega arith))
 
 returns-2 : tie.Need-returns-2
-returns-2 c = simp (le-leb _ _ (c .before .if1 .left), lt-leb _ _ (c .if2 .taken))
+returns-2 c =
+    let a = c .before .before .args in
+    simp (le-leb (a .time) 3599999 (omega arith), lt-leb 1 (a .«module») (omega arith))
 
 returns-3 : tie.Need-returns-3
 returns-3 c =
-    simp (le-leb _ _ (c .before .before .if1 .left), le-leb _ _ (c .before .if2 .left), lt-leb _ _ (c .if3 .taken))
+    let a = c .before .before .before .args in
+    simp (
+      le-leb (a .time) 3599999 (omega arith),
+      le-leb 1 (a .«module») (omega arith),
+      lt-leb (a .«module») 99 (omega arith),
+    )
 
 returns-4 : tie.Need-returns-4
 returns-4 c =
-    let a = c .before in
-    let b = a .before in
+    let a = c .before .before .before .before .args in
     simp (
-      le-leb _ _ (b .before .if1 .left),
-      le-leb _ _ (b .if2 .left),
-      le-leb _ _ (a .if3 .left),
-      lt-leb _ _ (c .if4 .taken),
+      le-leb (a .time) 3599999 (omega arith),
+      le-leb 1 (a .«module») (omega arith),
+      le-leb (a .«module») 99 (omega arith),
+      lt-leb 1 (a .pin) (omega arith),
     )
 
 returns-5 : tie.Need-returns-5
 returns-5 c =
-    let a = c .before in
-    let b = a .before in
+    let a = c .before .before .before .before .args in
     simp (
-      le-leb _ _ (b .before .if1 .left),
-      le-leb _ _ (b .if2 .left),
-      le-leb _ _ (a .if3 .left),
-      le-leb _ _ (c .if4 .left),
+      le-leb (a .time) 3599999 (omega arith),
+      le-leb 1 (a .«module») (omega arith),
+      le-leb (a .«module») 99 (omega arith),
+      le-leb 1 (a .pin) (omega arith),
     )
 
 pub in-range-spec : {M : Type 1} → statement M

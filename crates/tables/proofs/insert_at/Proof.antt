@@ -1,11 +1,11 @@
 -- `tables::insert_at` meets its contract. The invariant: the keys before i with the carried one and those from i on
 -- are the table with the new key. Assumes nothing.
-use Prim.Native.Nat.{_-_, _≤_, _<_}
-use mathlib.Core.Path.{_≡_, refl}
+use Prim.Native.Nat.{_+_, _-_, _≤_, _<_}
+use mathlib.Core.Path.{_≡_, refl, _∙_}
 use mathlib.Core.List.{[], _∷_, _++_}
 use native.Mathlib.Omega.{arith}
 use native.Mathlib.Numerals.{add-one}
-use lib.ListN.{length, take, drop, length-set, drop-of-length-le}
+use lib.ListN.{length, set, take, drop, length-set, drop-of-length-le}
 use lib.Seq.{length-take-le, take-suc-set, take-take}
 use Rattle.tables.proofs.Laws.{ripple, ripple-rest}
 use Rattle.tables.proofs.insert_at.Statement.{statement}
@@ -73,7 +73,9 @@ returns c =
     let e : v .i ≡ n = omega arith in
     let l : length (take n a) ≡ n = length-take-le n a (omega arith) in
     let d : drop n (take n a) ≡ [] = drop-of-length-le (take n a) {i = n} (omega arith) in
-    rw (add-one, take-suc-set (v .keys) n (v .carry) (omega arith)) (rw (e, d) at (v .inv .3))
+    let p : take (n + 1) (set (v .keys) n (v .carry)) ≡ take n (v .keys) ++ (v .carry ∷ []) =
+    rw add-one (take-suc-set (v .keys) n (v .carry) (omega arith)) in
+    p ∙ (rw (e, d) at (v .inv .3))
 
 pub insert-at-spec : {M : Type 1} → statement M
 insert-at-spec =

@@ -1,85 +1,64 @@
--- `tables::rank` meets its contract: the ends bracket the rank. Assumes nothing.
-use Prim.Native.Nat.{ℕ, _+_, _-_, _≤_, _<_, _/_}
+-- `tables::rank` meets its contract: behind the last key, or found by one of the searches. Assumes nothing.
+use Prim.Native.Nat.{ℕ, _+_, _-_, _≤_, _<_}
 use mathlib.Core.Path.{_≡_}
 use native.Mathlib.Omega.{arith}
-use lib.ListN.{length, take}
+use lib.ListN.{length, take, getD}
 use lib.Seq.{length-take-le, getD-take}
+use borrow.Author.Needs.{needs}
 use Rattle.tables.specs.Table.{rankOf}
-use Rattle.tables.proofs.Laws.{rank-up, rank-down, rank-le}
+use Rattle.tables.proofs.Laws.{rank-le, rank-up}
 use Rattle.tables.proofs.rank.Statement.{statement}
 use Rattle.tables.proofs.rank.Tie as tie
 
-abbrev Inv-loop : tie.InvT-loop
-Inv-loop keys n key lo₀ hi₀ lo hi = (lo ≤ rankOf key (take n keys)) × (rankOf key (take n keys) ≤ hi) × (hi ≤ n)
+returns : tie.Need-returns
+returns c =
+    let s = c .before .before in
+    let a = s .args in
+    let l : length (take (a .n) (a .keys .now)) ≡ a .n = length-take-le (a .n) (a .keys .now) (s .pre .0) in
+    omega (arith, rank-le (a .key) (take (a .n) (a .keys .now)), l)
 
-abbrev μ-loop : tie.MeasureT-loop
-μ-loop keys n key lo₀ hi₀ lo hi = hi - lo
+sub-last : tie.Need-sub-last
+sub-last c = search needs
 
-loop-holds : tie.Need-loop-holds Inv-loop μ-loop
-loop-holds c =
-    let s = c .args in
-    let l : length (take (s .n) (s .keys .now)) ≡ s .n = length-take-le (s .n) (s .keys .now) (c .pre .0) in
-    omega (arith, rank-le (s .key) (take (s .n) (s .keys .now)), l)
+mul-last : tie.Need-mul-last
+mul-last c = search needs
 
-sub-mid : tie.Need-sub-mid Inv-loop μ-loop
-sub-mid c = omega arith
+shared-slice-read-last : tie.Need-shared-slice-read-last
+shared-slice-read-last c = search needs
 
-add-mid : tie.Need-add-mid Inv-loop μ-loop
-add-mid c = omega arith
-
-mul-if1 : tie.Need-mul-if1 Inv-loop μ-loop
-mul-if1 c = omega arith
-
-shared-slice-read-if1 : tie.Need-shared-slice-read-if1 Inv-loop μ-loop
-shared-slice-read-if1 c = omega arith
-
-add-lo : tie.Need-add-lo Inv-loop μ-loop
-add-lo c = omega arith
-
-loop-less : tie.Need-loop-less Inv-loop μ-loop
-loop-less c = omega arith
-
-loop-again : tie.Need-loop-again Inv-loop μ-loop
-loop-again c =
+returns-2 : tie.Need-returns-2
+returns-2 c =
     let s = c .before .before .before .before in
-    let v = c .before .before .before .loop in
-    let a = s .args .keys .now in
-    let m : ℕ = v .lo + (v .hi - v .lo) / 2 in
-    let l : length (take (s .args .n) a) ≡ s .args .n = length-take-le (s .args .n) a (s .pre .0) in
-    let h : m < s .args .n = omega arith in
-    omega
-    (arith, rank-up (s .args .key) (take (s .args .n) a) (s .pre .1) m (omega arith) (rw getD-take (c .if1 .taken)))
+    let a = s .args in
+    let x = take (a .n) (a .keys .now) in
+    let l : length x ≡ a .n = length-take-le (a .n) (a .keys .now) (s .pre .0) in
+    let h : a .n - 1 < a .n = omega arith in
+    let up : a .n - 1 < rankOf (a .key) x =
+    rank-up (a .key) x (s .pre .1) (a .n - 1) (omega arith) (rw (getD-take (a .n) (a .keys .now) (a .n - 1) 0 h) (c .if2 .taken)) in
+    omega (arith, rank-le (a .key) x, l, up)
 
-loop-less-2 : tie.Need-loop-less-2 Inv-loop μ-loop
-loop-less-2 c = omega arith
+rank-by-bits-requires : tie.Need-rank-by-bits-requires
+rank-by-bits-requires c κs = search needs
 
-loop-again-2 : tie.Need-loop-again-2 Inv-loop μ-loop
-loop-again-2 c =
-    let s = c .before .before .before .before in
-    let v = c .before .before .before .loop in
-    let a = s .args .keys .now in
-    let m : ℕ = v .lo + (v .hi - v .lo) / 2 in
-    let l : length (take (s .args .n) a) ≡ s .args .n = length-take-le (s .args .n) a (s .pre .0) in
-    let h : m < s .args .n = omega arith in
-    omega (arith, rank-down (s .args .key) (take (s .args .n) a) m (omega arith) (rw getD-take (c .if1 .left)))
+returns-3 : tie.Need-returns-3
+returns-3 c = search needs
 
-returns : tie.Need-returns Inv-loop μ-loop
-returns c = omega arith
+rank-by-branches-requires : tie.Need-rank-by-branches-requires
+rank-by-branches-requires c κs = search needs
+
+returns-4 : tie.Need-returns-4
+returns-4 c = search needs
 
 pub rank-spec : {M : Type 1} → statement M
 rank-spec =
     tie.close
     (tie.spec
-    Inv-loop
-    μ-loop
-    loop-holds
-    sub-mid
-    add-mid
-    mul-if1
-    shared-slice-read-if1
-    add-lo
-    loop-less
-    loop-again
-    loop-less-2
-    loop-again-2
-    returns)
+    returns
+    sub-last
+    mul-last
+    shared-slice-read-last
+    returns-2
+    rank-by-bits-requires
+    returns-3
+    rank-by-branches-requires
+    returns-4)

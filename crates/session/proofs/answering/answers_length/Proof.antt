@@ -1,7 +1,7 @@
 -- `session::answering::answers_length` meets its contract. The invariant: the bytes counted and those of the answers to
 -- the lines left are all bytes. Assumes nothing.
-use mathlib.Core.Path.{_≡_, ap}
-use Prim.Native.Nat.{_+_, _-_, _≤_, _<_}
+use mathlib.Core.Path.{ap}
+use Prim.Native.Nat.{_+_, _-_, _≤_}
 use native.Mathlib.Omega.{arith}
 use lib.ListN.{length}
 use Rattle.store_words.specs.Words.{storeOf, StoreFits}
@@ -75,7 +75,8 @@ loop-again c =
     let h = x .before .before .before .before .before .before .loop-test .taken in (
       r .ensures .fits,
       stepping-more t _ (storeOf (l .script) (l .queue) (l .ts)) (l .sum) (l .at) (f .result) (l .inv .1) h
-          (f .ensures .0) _ (r .result) (r .ensures .store) (r .ensures .answer) _ (ap (λ n. l .sum + n) (c .answer-length .ensures)),
+          (f .ensures .0) _ (r .result) (r .ensures .store) (r .ensures .answer) _
+          (ap (λ n. l .sum + n) (c .answer-length .ensures)),
     )
 
 returns : tie.Need-returns Inv-loop μ-loop

@@ -1,7 +1,6 @@
 -- `session::answering::put_answers` meets its contract. The invariant: the answers to the lines left, from the present
 -- store on and behind those that stand, are all answers. Assumes nothing.
-use mathlib.Core.Path.{_≡_}
-use Prim.Native.Nat.{_+_, _-_, _≤_, _<_}
+use Prim.Native.Nat.{_+_, _-_, _≤_}
 use native.Mathlib.Omega.{arith}
 use lib.ListN.{length}
 use Rattle.buffers.proofs.Answers.{not-refused}
@@ -34,8 +33,8 @@ answer-fits w =
     let f = x .before .before .before .before .before .find-byte in
     let t = s .args .text .now in
     let h = x .before .before .before .before .before .before .loop-test .taken in
-    answer-room (s .args .buf .now) (l .buf) t _ (storeOf (l .script) (l .queue) (l .ts)) (l .end) (l .at) (f .result) (l .inv .1) h
-    (f .ensures .0) _ (r .result) (r .ensures .store) (r .ensures .answer) (s .pre .1)
+    answer-room (s .args .buf .now) (l .buf) t _ (storeOf (l .script) (l .queue) (l .ts)) (l .end) (l .at)
+    (f .result) (l .inv .1) h (f .ensures .0) _ (r .result) (r .ensures .store) (r .ensures .answer) (s .pre .1)
 
 loop-holds : tie.Need-loop-holds Inv-loop μ-loop
 loop-holds c =
@@ -73,7 +72,10 @@ same-length c = search needs
 returns : tie.Need-returns Inv-loop μ-loop
 returns c =
     let w = c .before .before .before .before in
-    absurd (not-refused _ (w .write-answer .last .0) (answerText (w .before .before .step .result)) _ _ _ (answer-fits w) (w .write-answer .ensures) (c .enum-told .given .1))
+    let a = answerText (w .before .before .step .result) in
+    absurd
+    (not-refused _ (w .write-answer .last .0) a _ _ _ (answer-fits w) (w .write-answer .ensures)
+    (c .enum-told .given .1))
 
 add-at : tie.Need-add-at Inv-loop μ-loop
 add-at c = search needs
@@ -96,8 +98,8 @@ loop-again c =
     let p = wrote (l .buf) (w .write-answer .last .0) (answerText (r .result)) _ (l .end) _ (answer-fits w)
     (w .write-answer .ensures) (n .next .given .1) in (
       r .ensures .fits,
-      writing-more (s .args .buf .now) (l .buf) t _ (storeOf (l .script) (l .queue) (l .ts)) (l .end) (l .at) (f .result) (l .inv .1) h
-          (f .ensures .0) _ (r .result) (r .ensures .store) (r .ensures .answer) _ _ p,
+      writing-more (s .args .buf .now) (l .buf) t _ (storeOf (l .script) (l .queue) (l .ts)) (l .end) (l .at)
+          (f .result) (l .inv .1) h (f .ensures .0) _ (r .result) (r .ensures .store) (r .ensures .answer) _ _ p,
     )
 
 same-length-2 : tie.Need-same-length-2 Inv-loop μ-loop
@@ -110,7 +112,8 @@ returns-2 c =
     let l = o .loop in
     let t = s .args .text .now in
     let h : length t ≤ l .at = omega arith in (
-      writing-all (s .args .buf .now) (l .buf) t _ (storeOf (l .script) (l .queue) (l .ts)) (l .end) (l .at) (l .inv .1) h,
+      writing-all (s .args .buf .now) (l .buf) t _ (storeOf (l .script) (l .queue) (l .ts)) (l .end) (l .at)
+          (l .inv .1) h,
       record {
         is = stepping-all t _ _ _ _ (l .inv .1 .stepping) h .1;
         fits = l .inv .0;

@@ -8,7 +8,10 @@ use borrow.Author.Needs.{needs}
 use Rattle.session.proofs.dividing.steps_from.Statement.{statement}
 use Rattle.session.proofs.dividing.steps_from.Tie as tie
 
-six-fit : (c : tie.Then1) → c .before .before .before .args .at + 6 ≤ length (c .before .before .before .args .input .now)
+-- the six bytes fit
+six-fit : (c : tie.Then1) →
+    let a = c .before .before .before .args in
+    a .at + 6 ≤ length (a .input .now)
 six-fit c = leb-true _ _ (sym (c .before .fits2 .ensures) ∙ c .if1 .taken)
 
 fits-requires : tie.Need-fits-requires

@@ -1,6 +1,6 @@
 -- `session::running::run_session` meets its contract: a buffer that is not too short holds the output. Assumes nothing.
 use mathlib.Core.Logic.{⊎-elim}
-use Prim.Native.Nat.{_+_, _≤_, _<_}
+use Prim.Native.Nat.{_≤_, _<_}
 use native.Mathlib.Omega.{arith}
 use lib.ListN.{length}
 use borrow.Author.Tests.{ltb-true, ltb-false}
@@ -46,7 +46,8 @@ returns-2 c =
     let r = c .before .before in
     let j = r .before .before in
     let a = j .before .before .before .args in
-    put-written (a .buf .now) (r .put-session .last .0) (outputOf (a .input .now)) 0 _ (omega (arith, fits j)) (r .put-session .ensures)
+    put-written (a .buf .now) (r .put-session .last .0) (outputOf (a .input .now)) 0 _ (omega (arith, fits j))
+    (r .put-session .ensures)
 
 pub run-session-spec : {M : Type 1} → statement M
 run-session-spec =

@@ -40,11 +40,9 @@ returns-3 : tie.Need-returns-3
 returns-3 c =
     let v = c .before .before in
     let r = v .before .before in
-    let a = r .before .before .args in (
-      no-comma-follows (a .line .now) (a .at) (r .read-field .result) (r .read-field .ensures .0) _ _ (v .value .given .1)
-          (omega arith),
-      tt,
-    )
+    let a = r .before .before .args in
+    let f = r .read-field in
+    (no-comma-follows (a .line .now) (a .at) (f .result) (f .ensures .0) _ _ (v .value .given .1) (omega arith), tt)
 
 pub read-field-spec : {M : Type 1} → statement M
 read-field-spec =
