@@ -74,7 +74,8 @@ row-text r n e k = other-row r k ∙ ap rowText (sym e)
 row-length : (n : ℕ) → length (rowText n) ≡ 9 + length (digitsOf n)
 row-length n = omega (arith, length-append (bytes "refused,") (fieldText n 10), field-length n 10)
 
-pub blocked-counted : (r : Refusal) (e n : ℕ) → r ≡ Blocked e → n ≡ length (digitsOf e) → 11 + n ≡ length (refusalText r)
+pub blocked-counted : (r : Refusal) (e n : ℕ) → r ≡ Blocked e → n ≡ length (digitsOf e)
+    → 11 + n ≡ length (refusalText r)
 unfolding digitsAt
 blocked-counted r e n q h =
     let a = record-length (bytes "refused") 8 e in

@@ -1,5 +1,3 @@
--- Laws of the tables, of script and queue together, and of what an accepted step does to the whole store.
-pub mod Tables
+-- Laws of script and queue together, and of what an accepted step does to the whole store.
 pub mod States
 pub mod Stores
-pub mod Recovering

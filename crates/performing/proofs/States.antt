@@ -17,7 +17,7 @@ use Rattle.boosting.specs.Locks.{Lock}
 use Rattle.boosting.specs.Store.{Transaction}
 use Rattle.transactions.specs.View.{WordsFit, Made, transactionOf, withLock, withEntry}
 use Rattle.store_words.specs.Words.{scriptIn, queueIn, ScriptFits, QueueFits}
-use Rattle.performing.specs.Tables.{keysIn, TableFits, Holds}
+use Rattle.counted_tables.specs.Tables.{keysIn, TableFits, Holds}
 use Rattle.performing.specs.States.{StateFits, StateHolds, entered}
 
 -- the script and the queue as tables

@@ -3,8 +3,6 @@
 // Each function does to the words what the model does to the store that they show (`specs/Performed`). A `requires`
 // asks for what opening and stepping establish, and for the room that the model's rows have found.
 mod calls;
-mod counted;
-pub mod recovery;
 mod undo;
 
 ghost use mathlib.Core.Path.{_≡_};
@@ -22,7 +20,7 @@ ghost use Rattle.performing.specs.Performed.{Ready, Performed};
 use crate::calls::answer_of;
 use crate::calls::apply;
 use crate::calls::entry_of;
-use crate::undo::roll_back;
+pub use crate::undo::roll_back;
 use answers::Answer;
 use store_words::Action;
 use store_words::Call;

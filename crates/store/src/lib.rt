@@ -8,7 +8,7 @@ mod stepping;
 mod texts;
 
 pub use opening::open;
-pub use performing::recovery::recover;
+pub use recovery::recover;
 pub use stepping::step;
 pub use texts::queue_length;
 pub use texts::script_length;

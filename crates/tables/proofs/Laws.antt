@@ -465,7 +465,8 @@ pub below-last : (b : ℕ) (l : List ℕ) (n i : ℕ) → n ≤ length l → Ord
     → getD l i 0 < b
 below-last b l n i h o lt small =
     let w = length-take-le n l h in
-    let r : getD (take n l) i 0 ≤ getD (take n l) (n - 1) 0 = rising-at (take n l) o i (n - 1) (omega arith) (omega arith) in
+    let r : getD (take n l) i 0 ≤ getD (take n l) (n - 1) 0 =
+    rising-at (take n l) o i (n - 1) (omega arith) (omega arith) in
     let p = getD-take n l i 0 lt in
     let q = getD-take n l (n - 1) 0 (omega arith) in
     omega arith

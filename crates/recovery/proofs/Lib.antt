@@ -1,0 +1,2 @@
+-- Laws of recovery; the folders beside this file hold the proofs of the functions. Assumes nothing.
+pub mod Recovering
