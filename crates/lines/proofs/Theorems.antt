@@ -15,9 +15,11 @@ use lib.Seq.{getD-append-add}
 use borrow.Author.Tests.{lt-ltb, le-ltb, eqb-true, eqb-false}
 use denote.Ref.{RefT, now}
 use Rattle.lines.specs.Lines.{upTo, onto, linesOf}
+use Rattle.lines.specs.Line.{lineTo, lineAt}
 use Rattle.lines.specs.Numbered.{seek, inStart, inSteps}
-use Rattle.lines.specs.Theorems.{joined, closed, LinesJoined, LinesWithoutLF, readFrom, LinesRead}
+use Rattle.lines.specs.Theorems.{joined, closed, LinesJoined, LinesWithoutLF, readOn, readFrom, LinesRead}
 use Rattle.lines.specs.Theorems.{startOf, endOf, NumberedBytes, NumberedPlaces, LineWithin}
+use Rattle.lines.specs.declared.Line.{Line}
 use Rattle.lines.specs.declared.numbered.Search.{Search}
 use Rattle.lines.specs.declared.numbered.Search.the-variants.{Found, Missing}
 use Rattle.lines.proofs.Laws.{lt-or-ge, lines-cons, lines-next, lines-end}
@@ -83,9 +85,12 @@ read-all s (suc n) at h =
     ⊎-elim
     (λ i.
     let u = upTo 10 (drop at s) in
-    rw (lt-ltb at (length s) i, add-sub-cancel-left at u)
-    (ap (λ (ls : List (List ℕ)). take u (drop at s) ∷ ls) (read-all s n (at + u + 1) (omega arith))
-    ∙ sym (lines-next s at i)))
+    let line : lineAt s at ≡ lineTo at (at + u) = rw (lt-ltb at (length s) i) in
+    let bytes : take (at + u - at) (drop at s) ≡ take u (drop at s) = rw (add-sub-cancel-left at u) in
+    ap (λ (l : Line). readOn s l (readFrom n s)) line
+    ∙ (ap (λ (l : List ℕ). l ∷ readFrom n s (at + u + 1)) bytes
+    ∙ (ap (λ (ls : List (List ℕ)). take u (drop at s) ∷ ls) (read-all s n (at + u + 1) (omega arith))
+    ∙ sym (lines-next s at i))))
     (λ i. rw (le-ltb at (length s) i, lines-end s at i))
     (lt-or-ge at (length s))
 
