@@ -14,8 +14,8 @@ use Rattle.boosting.specs.Store.{Store}
 use Rattle.boosting.specs.Step.{stepLine}
 use Rattle.boosting.specs.Run.{Event, begun, advance, runFrom, run, answerAt, answers}
 use Rattle.session.specs.Output.{answersText, answerLines}
-use Rattle.closing_lists.specs.Put.{Put}
-use Rattle.closing_lists.proofs.Puts.{put-room}
+use Rattle.session.specs.Put.{Put}
+use Rattle.session.proofs.Puts.{put-room}
 
 -- ---- a run, one line more
 abbrev event : Store → List ℕ → Event

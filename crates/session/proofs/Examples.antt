@@ -25,8 +25,7 @@ use Rattle.boosting.specs.Step.{accept, perform, stepOn, stepLine}
 use Rattle.boosting.specs.Run.{advance, runFrom}
 use Rattle.boosting.specs.Recovery.{rollBacks, recoverOne, recover, rising}
 use Rattle.session.specs.Division.{stepsPlace, startText, stepList}
-use Rattle.closing_lists.specs.Closing.{closingText}
-use Rattle.session.specs.Output.{answersText, runText, outputOf}
+use Rattle.session.specs.Output.{answersText, closingText, runText, outputOf}
 
 -- an input, and its output
 abbrev pub examples : List (List ℕ × List ℕ)

@@ -84,9 +84,16 @@ use Rattle.boosting.specs.Sound.{Sound}
 use Rattle.boosting.proofs.Theorems.{opened-is-sound, run-keeps-sound, recovery-keeps-sound, sound-has-room}
 use Rattle.boosting.specs.Run.{run}
 use Rattle.session.specs.Division.{stepsPlace, startText, stepList}
-use Rattle.closing_lists.proofs.Lists.{list-length}
-use Rattle.closing_lists.specs.Closing.{listText, closingText}
-use Rattle.session.specs.Output.{answerLines, recovered, runText, startRefused, outputWith, outputOf}
+use Rattle.session.specs.Output.{
+  answerLines,
+  listText,
+  closingText,
+  recovered,
+  runText,
+  startRefused,
+  outputWith,
+  outputOf,
+}
 use Rattle.session.specs.Theorems.{room, OutputFits}
 use Rattle.session.proofs.Texts.{by-lines, lines-one}
 use Rattle.session.proofs.Answers.{lines-answered, nothing-answered}
@@ -232,6 +239,16 @@ pub answers-fit : (s : List ℕ) → AnswersFit s
 answers-fit = by-lines AnswersFit answers-none answers-one answers-more
 
 -- ---- the closing lists
+pub list-length : (word keys : List ℕ)
+    → length (listText word keys) ≡ length word + (length (digitsOf (length keys)) + 1) + length (textOf keys)
+list-length word keys =
+    omega (
+      arith,
+      length-append (word ++ fieldText (length keys) 10) (textOf keys),
+      length-append word (fieldText (length keys) 10),
+      field-length (length keys) 10,
+    )
+
 closing-length : (s : State)
     → length (closingText s)
     ≡ length (listText (bytes "script,") (s .script)) + length (listText (bytes "queue,") (s .queue))

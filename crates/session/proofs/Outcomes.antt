@@ -24,8 +24,7 @@ use Rattle.store_words.specs.Words.{storeOf}
 use Rattle.session.specs.declared.starting.Start.{Start}
 use Rattle.session.specs.declared.starting.Start.the-variants.{Steps, Refused as RefusedStart}
 use Rattle.session.specs.Division.{startText, stepList}
-use Rattle.closing_lists.specs.Closing.{closingText}
-use Rattle.session.specs.Output.{answerLines, recovered, runText, startRefused, outputOf}
+use Rattle.session.specs.Output.{answerLines, closingText, recovered, runText, startRefused, outputOf}
 use Rattle.session.specs.Started.{Running, Started}
 use Rattle.session.proofs.Fitting.{run-length, refused-length}
 

@@ -11,8 +11,7 @@ use Rattle.boosting.specs.Store.{started, opened}
 use Rattle.boosting.specs.Run.{Event, run}
 use Rattle.boosting.specs.Replay.{replay, replies, fed, heard}
 use Rattle.session.specs.Division.{isSteps, startText, stepList}
-use Rattle.closing_lists.specs.Closing.{closingText}
-use Rattle.session.specs.Output.{answerLines, outputOf}
+use Rattle.session.specs.Output.{answerLines, closingText, outputOf}
 
 -- ---- the two parts of the input
 -- the lines before the first line `steps`, and those behind it; all lines and none where there is no such line

@@ -7,7 +7,7 @@ ghost use Rattle.boosting.specs.Run.{run};
 ghost use Rattle.store_words.specs.Words.{storeOf, StoreFits};
 ghost use Rattle.performing.specs.Performed.{Shows};
 ghost use Rattle.session.specs.Output.{answerLines};
-ghost use Rattle.closing_lists.specs.Put.{Put};
+ghost use Rattle.session.specs.Put.{Put};
 use answers::answer_length;
 use answers::write_answer;
 use buffers::Written;

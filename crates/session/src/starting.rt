@@ -4,7 +4,7 @@ ghost use Prim.Native.Nat.{_≤_};
 ghost use lib.ListN.{length};
 ghost use Rattle.store.specs.Sized.{Sized};
 ghost use Rattle.session.specs.Output.{startRefused};
-ghost use Rattle.closing_lists.specs.Put.{Put};
+ghost use Rattle.session.specs.Put.{Put};
 ghost use Rattle.session.specs.Started.{Started};
 use crate::dividing::find_steps;
 use crate::dividing::steps_from;

@@ -7,7 +7,7 @@ use Rattle.buffers.proofs.Answers.{not-refused}
 use Rattle.answers.specs.Answer.{answerText}
 use Rattle.store_words.specs.Words.{storeOf, StoreFits}
 use Rattle.session.proofs.Answers.{Writing, writing-none, writing-more, writing-all, answer-room, stepping-all}
-use Rattle.closing_lists.proofs.Puts.{wrote}
+use Rattle.session.proofs.Puts.{wrote}
 use borrow.Author.Needs.{needs}
 use Rattle.session.proofs.answering.put_answers.Statement.{statement}
 use Rattle.session.proofs.answering.put_answers.Tie as tie

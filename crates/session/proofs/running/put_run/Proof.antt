@@ -7,11 +7,10 @@ use native.Mathlib.Omega.{arith}
 use lib.ListN.{length}
 use Rattle.lines.specs.Lines.{linesOf}
 use Rattle.store_words.specs.Words.{stateOf, storeOf}
-use Rattle.closing_lists.specs.Closing.{closingText}
-use Rattle.session.specs.Output.{answerLines}
+use Rattle.session.specs.Output.{answerLines, closingText}
 use Rattle.session.proofs.Fitting.{run-length}
 use Rattle.session.proofs.Outcomes.{run-text}
-use Rattle.closing_lists.proofs.Puts.{put-as, put-both, second-room}
+use Rattle.session.proofs.Puts.{put-as, put-both, second-room}
 use borrow.Author.Needs.{needs}
 use Rattle.session.proofs.running.put_run.Statement.{statement}
 use Rattle.session.proofs.running.put_run.Tie as tie

@@ -4,7 +4,7 @@ use Rattle.buffers.specs.Written.{writtenAt}
 use Rattle.buffers.proofs.Answers.{not-refused}
 use Rattle.session.specs.Output.{startRefused}
 use Rattle.session.proofs.Outcomes.{refused-text}
-use Rattle.closing_lists.proofs.Puts.{wrote}
+use Rattle.session.proofs.Puts.{wrote}
 use native.Mathlib.Omega.{arith}
 use borrow.Author.Needs.{needs}
 use Rattle.session.proofs.starting.put_refused.Statement.{statement}

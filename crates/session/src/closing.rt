@@ -1,24 +1,18 @@
 // The closing lists: the script and the queue, each its count and its cue lines in order.
-//
-// The words are those of the store (`store_words`). `put_closing` is for callers that have tried the room; how much it
-// takes, `closing_length` says.
 ghost use mathlib.Core.Path.{_≡_};
 ghost use Prim.Native.Nat.{_+_, _≤_};
 ghost use lib.ListN.{length};
 ghost use Rattle.scripts.specs.Script.{keysIn};
 ghost use Rattle.store_words.specs.Words.{stateOf, ScriptFits, QueueFits};
-ghost use Rattle.closing_lists.specs.Closing.{listText, closingText};
-ghost use Rattle.closing_lists.specs.Put.{Put};
+ghost use Rattle.session.specs.Output.{listText, closingText};
+ghost use Rattle.session.specs.Put.{Put};
 use answers::write_number_line;
 use buffers::Written;
 use numbers::digit_count;
 use script_texts::cues_length;
 use script_texts::write_cues;
-
-// Where the script's and the queue's counts are, behind their keys.
-const SCRIPT_COUNT: usize = 256;
-
-const QUEUE_COUNT: usize = 64;
+use store_words::QUEUE_COUNT;
+use store_words::SCRIPT_COUNT;
 
 // Puts a list at a place where it fits: the word and the count of a table with LF, then its cue lines.
 fn put_list(buf: &mut [u8], at: usize, word: &[u8], keys: &[u64], n: usize) -> usize

@@ -10,7 +10,7 @@ use Rattle.buffers.specs.declared.Written.the-variants.{Upto}
 use Rattle.buffers.specs.Written.{writtenAt}
 use Rattle.buffers.proofs.Answers.{put-there}
 use Rattle.buffers.proofs.Laws.{sets-append, written}
-use Rattle.closing_lists.specs.Put.{Put}
+use Rattle.session.specs.Put.{Put}
 
 -- a writer that had room put the text there
 pub wrote : (buf mid text : List ℕ) (r : Written) (at end : ℕ) → at + length text ≤ length buf

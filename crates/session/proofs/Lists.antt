@@ -12,22 +12,12 @@ use Rattle.records.specs.Record.{fieldText}
 use Rattle.scripts.specs.Script.{keysIn}
 use Rattle.scripts.specs.ScriptText.{textOf}
 use Rattle.store_words.specs.Words.{scriptIn, stateOf, ScriptFits, QueueFits}
-use Rattle.closing_lists.specs.Closing.{listText, closingText}
-use Rattle.closing_lists.specs.Put.{Put}
-use Rattle.records.proofs.Laws.{field-length}
-use Rattle.closing_lists.proofs.Puts.{put-as, put-both, second-room}
+use Rattle.session.specs.Output.{listText, closingText}
+use Rattle.session.specs.Put.{Put}
+use Rattle.session.proofs.Fitting.{list-length}
+use Rattle.session.proofs.Puts.{put-as, put-both, second-room}
 
 -- ---- one list
-pub list-length : (word keys : List ℕ)
-    → length (listText word keys) ≡ length word + (length (digitsOf (length keys)) + 1) + length (textOf keys)
-list-length word keys =
-    omega (
-      arith,
-      length-append (word ++ fieldText (length keys) 10) (textOf keys),
-      length-append word (fieldText (length keys) 10),
-      field-length (length keys) 10,
-    )
-
 -- with the count that the code writes
 abbrev pub countedText : List ℕ → List ℕ → ℕ → List ℕ
 countedText word keys n = (word ++ fieldText n 10) ++ textOf keys
