@@ -1,0 +1,2 @@
+-- What scanning a step at a place of a text finds.
+pub mod Scan
