@@ -7,7 +7,7 @@ use Rattle.steps.specs.declared.reading.Step.{Step}
 use Rattle.answers.specs.declared.Answer.{Answer}
 use Rattle.boosting.specs.Store.{Store}
 use Rattle.boosting.specs.Rows.{Request, requestOf}
-use Rattle.boosting.specs.Step.{stepOn, stepLine}
+use Rattle.boosting.specs.Step.{Out, stepOn}
 use Rattle.boosting.specs.Replay.{isRefused}
 use Rattle.boosting.specs.Sound.{RequestKey}
 use Rattle.store_words.specs.Words.{storeOf, StoreFits}
@@ -17,11 +17,11 @@ pub record Asks (q : Request) (s : Step) : Type 0 where
   pub alike : (d : Store) → stepOn d q ≡ stepOn d (requestOf s)
   pub key : RequestKey q
 
--- the words show the model's store after the line, and the answer is the model's; a refused step leaves every word as
--- it was, those that mean nothing too
-pub record Stepped (s q : List ℕ) (ts : List (List ℕ)) (line : List ℕ) (s′ q′ : List ℕ) (ts′ : List (List ℕ))
-    (r : Answer) : Type 0 where
-  pub store : storeOf s′ q′ ts′ ≡ stepLine (storeOf s q ts) line .store
-  pub answer : r ≡ stepLine (storeOf s q ts) line .answer
+-- the words show the store of the model's outcome, and the answer is its answer; a refused step leaves every word as it
+-- was, those that mean nothing too
+pub record Stepped (s q : List ℕ) (ts : List (List ℕ)) (o : Out) (s′ q′ : List ℕ) (ts′ : List (List ℕ)) (r : Answer)
+    : Type 0 where
+  pub store : storeOf s′ q′ ts′ ≡ o .store
+  pub answer : r ≡ o .answer
   pub fits : StoreFits s′ q′ ts′
   pub untouched : isRefused r ≡ true → (s′ ≡ s) × (q′ ≡ q) × (ts′ ≡ ts)

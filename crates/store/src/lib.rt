@@ -1,4 +1,5 @@
-// The store in words that the caller lends: opened from a script text, stepped by raw lines, written out.
+// The store in words that the caller lends: opened from a script text, stepped by raw lines or by steps that have been
+// read, written out.
 //
 // The script has 257 words, the queue 65, and each of the eight transactions a record of 64 (`store_words`); they are
 // altered where they stand. `open` fills words of any contents. Every other function asks for what `open` establishes
@@ -9,6 +10,7 @@ mod texts;
 
 pub use opening::open;
 pub use recovery::recover;
+pub use stepping::execute;
 pub use stepping::step;
 pub use texts::queue_length;
 pub use texts::script_length;

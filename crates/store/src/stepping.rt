@@ -1,8 +1,11 @@
-// One step by a raw line: read, turned into a request, tried by the rows of the table, and performed.
+// One step, by a raw line or one that has been read: turned into a request, tried by the rows of the table, and
+// performed.
 ghost use mathlib.Core.Path.{_≡_};
 ghost use mathlib.Core.Bool.{true};
 ghost use Rattle.cues.specs.Cue.{inRange, keyOf};
-ghost use Rattle.store_words.specs.Words.{StoreFits};
+ghost use Rattle.boosting.specs.Rows.{requestOf};
+ghost use Rattle.boosting.specs.Step.{stepOn, stepLine};
+ghost use Rattle.store_words.specs.Words.{storeOf, StoreFits};
 ghost use Rattle.store_words.specs.Requests.{modelRequest};
 ghost use Rattle.store.specs.Stepped.{Asks, Stepped};
 use admission::Admission;
@@ -58,18 +61,19 @@ fn request_of(step: Step) -> Request
     }
 }
 
-// One step on a line, without its LF: refused with every word as it was, or accepted and done.
-pub fn step(
+// One step that has been read: refused with every word as it was, or accepted and done.
+pub fn execute(
     script: &mut [u64; 257],
     queue: &mut [u64; 65],
     ts: &mut [[u64; 64]; 8],
-    line: &[u8],
+    step: Step,
 ) -> Answer
     requires { ⌜ StoreFits (now script) (now queue) (now ts) ⌝ }
-    ensures { λ r. ⌜ Stepped (now (script .entry)) (now (queue .entry)) (now (ts .entry)) (now (line .entry))
+    ensures { λ r. ⌜ Stepped (now (script .entry)) (now (queue .entry)) (now (ts .entry))
+        (stepOn (storeOf (now (script .entry)) (now (queue .entry)) (now (ts .entry))) (requestOf step))
         (now (script .exit)) (now (queue .exit)) (now (ts .exit)) r ⌝ }
 {
-    let request = request_of(read_step(line));
+    let request = request_of(step);
     let Request::On(e, action) = request else {
         return Answer::Refused(Refusal::Malformed);
     };
@@ -77,4 +81,19 @@ pub fn step(
         Admission::Accepted => perform(script, queue, ts, e as usize, action),
         Admission::Refused(refusal) => Answer::Refused(refusal),
     }
+}
+
+// One step on a line, without its LF.
+pub fn step(
+    script: &mut [u64; 257],
+    queue: &mut [u64; 65],
+    ts: &mut [[u64; 64]; 8],
+    line: &[u8],
+) -> Answer
+    requires { ⌜ StoreFits (now script) (now queue) (now ts) ⌝ }
+    ensures { λ r. ⌜ Stepped (now (script .entry)) (now (queue .entry)) (now (ts .entry))
+        (stepLine (storeOf (now (script .entry)) (now (queue .entry)) (now (ts .entry))) (now (line .entry)))
+        (now (script .exit)) (now (queue .exit)) (now (ts .exit)) r ⌝ }
+{
+    execute(script, queue, ts, read_step(line))
 }
