@@ -37,7 +37,8 @@ module _ (d : Store) (ts : List (List ℕ)) (u : ts ≡ map wordsOf (d .transact
         → Holds after (f (valueOf d))
     redone f h = rw (← u) (packed s q us rs (f (storeOf (d .script) (d .queue) ts)) p h)
 
-    pub stepped : (line : List ℕ) (r : Answer) → Stepped (d .script) (d .queue) ts line s q us r
+    pub stepped : (line : List ℕ) (r : Answer)
+        → Stepped (d .script) (d .queue) ts (stepLine (storeOf (d .script) (d .queue) ts) line) s q us r
         → StepGives d line (record { store = after; answer = r })
     stepped line r m = record {
       store = ap (storeOf s q) p ∙ m .store
