@@ -175,6 +175,11 @@ unfolding stepOn
 stepped-at-most d malformed = refusal-at-most MalformedLine
 stepped-at-most d (request e a) = decided-at-most (refusalOf d (request e a)) d e a
 
+-- every answer line is short
+pub line-at-most : (d : Store) (l : List ℕ) → length (answerText (stepLine d l .answer)) ≤ 40
+unfolding stepLine
+line-at-most d l = stepped-at-most d (requestOf (stepOf l))
+
 -- a line that is a step has four bytes and more
 abbrev IsStep : Step → Type 0
 IsStep s = (s ≡ Malformed → ⊥) × (4 ≤ length (stepText s))

@@ -1,5 +1,9 @@
 // The store stepped through a step list, line after line: the answer lines written, or their bytes counted.
+//
+// One loop does both, so that the engine is compiled once, into the loop; a second place that calls it costs a fifth of
+// the speed.
 ghost use mathlib.Core.Path.{_≡_};
+ghost use mathlib.Core.Bool.{cond};
 ghost use Prim.Native.Nat.{_≤_};
 ghost use lib.ListN.{length};
 ghost use Rattle.lines.specs.Lines.{linesOf};
@@ -7,14 +11,63 @@ ghost use Rattle.boosting.specs.Run.{run};
 ghost use Rattle.store_words.specs.Words.{storeOf, StoreFits};
 ghost use Rattle.performing.specs.Performed.{Shows};
 ghost use Rattle.session.specs.Output.{answerLines};
+ghost use Rattle.session.specs.Answering.{RoomFor, Kept};
 ghost use Rattle.session.specs.Put.{Put};
-use answers::answer_length;
 use answers::write_answer;
 use buffers::Written;
-use lines::find_byte;
-use store::step;
+use scanning::scan_step;
+use store::execute;
 
-const LF: u8 = 10;
+// Every answer line has at most so many bytes.
+const LONGEST_ANSWER: usize = 40;
+
+// Where the next answer line goes: behind the others where they are kept, else over the last one.
+fn place_of(keep: bool, sum: usize) -> usize
+    ensures { λ r. ⌜ r ≡ cond keep sum 0 ⌝ }
+{
+    if keep {
+        return sum;
+    }
+    0
+}
+
+// Steps through all lines and writes their answer lines to the front of the buffer, where they are kept, or each over
+// the last one; answers how many bytes all of them have.
+fn answer_lines(
+    buf: &mut [u8],
+    keep: bool,
+    script: &mut [u64; 257],
+    queue: &mut [u64; 65],
+    ts: &mut [[u64; 64]; 8],
+    text: &[u8],
+) -> usize
+    requires { ⌜ StoreFits (now script) (now queue) (now ts) ⌝ }
+    requires { ⌜ RoomFor keep (length (now buf)) (length (now text))
+        (length (answerLines (storeOf (now script) (now queue) (now ts)) (linesOf (now text)))) ⌝ }
+    ensures { λ r. ⌜ (r ≡ length (answerLines (storeOf (now (script .entry)) (now (queue .entry)) (now (ts .entry)))
+        (linesOf (now (text .entry)))))
+        × Kept keep (now (buf .entry))
+        (answerLines (storeOf (now (script .entry)) (now (queue .entry)) (now (ts .entry)))
+        (linesOf (now (text .entry)))) (now (buf .exit))
+        × Shows (now (script .exit)) (now (queue .exit)) (now (ts .exit))
+        (run (storeOf (now (script .entry)) (now (queue .entry)) (now (ts .entry)))
+        (linesOf (now (text .entry))) .store) ⌝ }
+{
+    let mut sum = 0;
+    let mut at = 0;
+    while at < text.len() {
+        let scanned = scan_step(text, at);
+        let step = scanned.step;
+        let answer = execute(script, queue, ts, step);
+        let place = place_of(keep, sum);
+        let Written::Upto(end) = write_answer(buf, place, answer) else {
+            return sum;
+        };
+        sum += end - place;
+        at = scanned.end + 1;
+    }
+    sum
+}
 
 // Steps through all lines and puts the answer lines at the front of the buffer, where they fit.
 pub fn put_answers(
@@ -34,18 +87,7 @@ pub fn put_answers(
         (run (storeOf (now (script .entry)) (now (queue .entry)) (now (ts .entry)))
         (linesOf (now (text .entry))) .store) ⌝ }
 {
-    let mut end = 0;
-    let mut at = 0;
-    while at < text.len() {
-        let stop = find_byte(text, at, LF);
-        let answer = step(script, queue, ts, &text[at..stop]);
-        let Written::Upto(next) = write_answer(buf, end, answer) else {
-            return end;
-        };
-        end = next;
-        at = stop + 1;
-    }
-    end
+    answer_lines(buf, true, script, queue, ts, text)
 }
 
 // Steps through all lines and counts the bytes of the answer lines. The limit keeps the count from running over.
@@ -62,13 +104,6 @@ pub fn answers_length(
         (run (storeOf (now (script .entry)) (now (queue .entry)) (now (ts .entry)))
         (linesOf (now (text .entry))) .store) ⌝ }
 {
-    let mut sum = 0;
-    let mut at = 0;
-    while at < text.len() {
-        let stop = find_byte(text, at, LF);
-        let answer = step(script, queue, ts, &text[at..stop]);
-        sum += answer_length(answer);
-        at = stop + 1;
-    }
-    sum
+    let mut line = [0u8; LONGEST_ANSWER];
+    answer_lines(&mut line, false, script, queue, ts, text)
 }
