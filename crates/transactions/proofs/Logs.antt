@@ -102,6 +102,7 @@ module _ (w : List ℕ) (f : WordsFit w) where
           long = simp (length-set, l);
           lock-count-le = simp (other, past-keys, past-kinds, hn) (f .lock-count-le);
           entry-count-le = simp (same, length-set, l) (omega arith);
+          sieved = simp (other, keep, past-keys, past-kinds, hn, n1, n2, locks-before w f) (f .sieved);
         };
       }
 
@@ -117,6 +118,7 @@ module _ (w : List ℕ) (f : WordsFit w) where
           long = simp (length-set, l);
           lock-count-le = simp other (f .lock-count-le);
           entry-count-le = simp (same, l) (omega arith);
+          sieved = simp (other, keep, locks-before w f) (f .sieved);
         };
       }
 

@@ -37,14 +37,15 @@ module _ (w : List ℕ) (f : WordsFit w) where
 
 -- whatever the words are
 pub closes : (w : List ℕ) → length w ≡ 64
-    → Made (set (set (set (set (set (set w 56 0) 57 0) 58 0) 59 0) 60 0) 61 0) closedTransaction
+    → Made (set (set (set (set (set (set (set w 56 0) 57 0) 58 0) 59 0) 60 0) 61 0) 62 0) closedTransaction
 unfolding closedTransaction noLocks
 closes w l = record {
   is = simp (other, same, length-set, l);
   fits = record {
     long = simp (length-set, l);
     lock-count-le = simp (other, same, length-set, l) (omega arith);
-    entry-count-le = simp (same, length-set, l) (omega arith);
+    entry-count-le = simp (other, same, length-set, l) (omega arith);
+    sieved = simp (other, same, length-set, l) tt;
   };
 }
 

@@ -2,12 +2,14 @@
 //
 // The words hold the cue locks, the undo log, the standing and the queue's modes (`specs/View`); each function
 // does to them what the model does to a transaction. A `requires` asks for what opening and stepping establish:
-// that the counts are in range, and that there is room where the model's rows have found it.
+// that the counts are in range, that the sieve has the bit of each cue lock, and that there is room where the
+// model's rows have found it.
 ghost use mathlib.Core.Path.{_≡_};
 ghost use mathlib.Core.Bool.{false};
 ghost use mathlib.Core.List.{head?};
-ghost use Prim.Native.Nat.{_<_, _≤_};
+ghost use Prim.Native.Nat.{_<_, _≤_, _%_, _^_};
 ghost use lib.ListN.{length};
+ghost use lib.Bits.{bitOr};
 ghost use Rattle.tables.specs.Table.{memberOf};
 ghost use Rattle.boosting.specs.Locks.{cueLock, conflicts};
 ghost use Rattle.boosting.specs.Store.{aborting, closedTransaction, openTransaction};
@@ -72,6 +74,9 @@ const LOCK_COUNT: usize = 60;
 
 const ENTRY_COUNT: usize = 61;
 
+// Where the sieve is: it has the bit `key % 63` of each cue lock, so that most locks are ruled out at a glance.
+const SIEVE: usize = 62;
+
 // What the words of the standing and of an entry's kind say; a mode that is held is 1.
 const CLOSED: u64 = 0;
 
@@ -109,6 +114,7 @@ pub fn close(t: &mut [u64; 64])
     t[TAKES] = 0;
     t[LOCK_COUNT] = 0;
     t[ENTRY_COUNT] = 0;
+    t[SIEVE] = 0;
 }
 
 // The transaction opens, with no lock and no entry.
@@ -128,11 +134,22 @@ pub fn abort(t: &mut [u64; 64])
     t[STANDING] = ABORTING;
 }
 
+// Whether a cue lock with this key can be held: the sieve has the key's bit.
+pub fn may_hold(t: &[u64; 64], key: u64) -> bool
+    requires { ⌜ WordsFit (now t) ⌝ }
+    ensures { λ r. ⌜ (r ≡ false → memberOf key (transactionOf (now (t .entry)) .locks .cues) ≡ false) ⌝ }
+{
+    (t[SIEVE] >> (key % 63)) % 2 == 1
+}
+
 // Whether a cue lock with this key is held.
 pub fn holds_cue(t: &[u64; 64], key: u64) -> bool
     requires { ⌜ WordsFit (now t) ⌝ }
     ensures { λ r. ⌜ r ≡ memberOf key (transactionOf (now (t .entry)) .locks .cues) ⌝ }
 {
+    if !may_hold(t, key) {
+        return false;
+    }
     let n = t[LOCK_COUNT] as usize;
     let mut j = 0;
     while j < n {
@@ -175,6 +192,13 @@ pub fn locks_full(t: &[u64; 64], lock: Lock) -> bool
     }
 }
 
+// The sieve with the key's bit set.
+fn with_bit(sieve: u64, key: u64) -> u64
+    ensures { λ r. ⌜ r ≡ bitOr sieve (2 ^ (key % 63)) ⌝ }
+{
+    sieve | (1 << (key % 63))
+}
+
 // The cue lock is held, once.
 fn hold_cue(t: &mut [u64; 64], key: u64)
     requires { ⌜ WordsFit (now t) ⌝ }
@@ -185,8 +209,10 @@ fn hold_cue(t: &mut [u64; 64], key: u64)
         return;
     }
     let n = t[LOCK_COUNT] as usize;
+    let sieve = with_bit(t[SIEVE], key);
     t[n] = key;
     t[LOCK_COUNT] = (n + 1) as u64;
+    t[SIEVE] = sieve;
 }
 
 // The lock is held, once, besides those that were.
