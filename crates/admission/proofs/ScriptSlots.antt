@@ -17,7 +17,7 @@ use Rattle.boosting.specs.Store.{closed}
 use Rattle.boosting.specs.Room.{reservedBy, reservedIn, scriptFull}
 use Rattle.boosting.proofs.Slots.{in-ordered}
 use Rattle.transactions.specs.View.{transactionOf, entryAt, entriesOf}
-use Rattle.transactions.proofs.Logs.{length-entries}
+use Rattle.undo_logs.proofs.Logs.{length-entries}
 use Rattle.admission.proofs.Blocking.{next, over}
 
 -- an entry's slot

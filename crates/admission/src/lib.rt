@@ -8,10 +8,11 @@ use store_words::Call;
 use store_words::QUEUE_COUNT;
 use store_words::SCRIPT_COUNT;
 use store_words::lock_of;
-use transactions::Entry;
+use transactions::LOCK_COUNT;
 use transactions::Lock;
-use transactions::Newest;
 use transactions::Standing;
+use undo_logs::Entry;
+use undo_logs::Newest;
 ghost use mathlib.Core.Path.{_≡_};
 ghost use mathlib.Core.List.{[], _∷_, map};
 ghost use mathlib.Core.Option.{some};
@@ -26,7 +27,8 @@ ghost use Rattle.boosting.specs.Store.{blocker};
 ghost use Rattle.boosting.specs.Room.{reservedBy, reservedIn, takesIn, scriptFull};
 ghost use Rattle.boosting.specs.Rows.{when, callRows, firstMet, request, refusalOf};
 ghost use Rattle.transactions.specs.View.{WordsFit, transactionOf};
-ghost use Rattle.transactions.specs.Code.{modelLock, modelEntry, modelNewest};
+ghost use Rattle.transactions.specs.Code.{modelLock};
+ghost use Rattle.undo_logs.specs.Code.{modelEntry, modelNewest};
 ghost use Rattle.store_words.specs.Requests.{modelCall, modelAction};
 ghost use Rattle.store_words.specs.Words.{
   ScriptFits,
@@ -58,9 +60,6 @@ pub enum Blocker {
     By(usize),
     Nobody,
 }
-
-// Where a transaction's count of cue locks is.
-const LOCK_COUNT: usize = 60;
 
 // The first transaction other than e that holds a lock on the cue; only those that may hold one are searched.
 fn find_holder(ts: &[[u64; 64]; 8], e: usize, key: u64) -> Blocker
@@ -128,7 +127,7 @@ fn all_entries(ts: &[[u64; 64]; 8]) -> usize
     let mut entries: usize = 0;
     let mut i = 0;
     while i < 8 {
-        entries += transactions::entry_count(&ts[i]);
+        entries += undo_logs::entry_count(&ts[i]);
         i += 1;
     }
     entries
@@ -142,7 +141,7 @@ fn queue_slots(queue: &[u64; 65], ts: &[[u64; 64]; 8]) -> usize
     let mut slots = queue[QUEUE_COUNT] as usize;
     let mut i = 0;
     while i < 8 {
-        slots += transactions::take_count(&ts[i]);
+        slots += undo_logs::take_count(&ts[i]);
         i += 1;
     }
     slots
@@ -222,11 +221,11 @@ fn reserve_log(keys: &mut [u64], n: usize, t: &[u64; 64]) -> usize
     ensures { λ r. ⌜ (take r (now (keys .exit))
         ≡ reservedBy (transactionOf (now (t .entry)) .log) (take n (now (keys .entry)))) × (r ≤ n + 16) ⌝ }
 {
-    let entries = transactions::entry_count(t);
+    let entries = undo_logs::entry_count(t);
     let mut m = n;
     let mut j = 0;
     while j < entries {
-        let entry = transactions::entry_at(t, j);
+        let entry = undo_logs::entry_at(t, j);
         m = reserve_entry(keys, m, entry);
         j += 1;
     }
@@ -295,7 +294,7 @@ fn room_refusal(
     let Newest::Entry(noted) = entry else {
         return Admission::Accepted;
     };
-    if 16 <= transactions::entry_count(&ts[e - 1]) {
+    if 16 <= undo_logs::entry_count(&ts[e - 1]) {
         return Admission::Refused(Refusal::UndoLogFull);
     }
     match noted {

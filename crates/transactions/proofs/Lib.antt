@@ -3,5 +3,4 @@ pub mod Words
 pub mod Sieve
 pub mod Standings
 pub mod Locks
-pub mod Logs
 pub mod Theorems

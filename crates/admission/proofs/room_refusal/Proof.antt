@@ -7,7 +7,7 @@ use native.Mathlib.Omega.{arith}
 use borrow.Author.Needs.{needs}
 use Rattle.refusals.specs.declared.Refusal.the-variants.{ScriptFull, QueueFull}
 use Rattle.boosting.specs.Rows.{when}
-use Rattle.transactions.specs.Code.{modelEntry, modelNewest}
+use Rattle.undo_logs.specs.Code.{modelEntry, modelNewest}
 use Rattle.admission.proofs.Blocking.{fit-at}
 use Rattle.admission.proofs.Rows.{no-entry, log-full, adds, removes, pushes, takes}
 use Rattle.admission.proofs.room_refusal.Statement.{statement}
