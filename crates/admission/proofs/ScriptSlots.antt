@@ -10,14 +10,14 @@ use borrow.Author.Tests.{lt-leb, le-leb}
 use lib.ListN.{length, take, drop, getD}
 use lib.Seq.{length-take-le}
 use Rattle.tables.specs.Table.{Ordered, memberOf, putOnceOf}
-use Rattle.tables.proofs.Laws.{split, length-once}
+use Rattle.tables.proofs.Laws.{split}
 use Rattle.boosting.specs.Undo.{Entry, added, removed, pushed, taken}
 use Rattle.boosting.specs.Locks.{noLocks}
 use Rattle.boosting.specs.Store.{closed}
 use Rattle.boosting.specs.Room.{reservedBy, reservedIn, scriptFull}
 use Rattle.boosting.proofs.Slots.{in-ordered}
 use Rattle.transactions.specs.View.{transactionOf, entryAt, entriesOf}
-use Rattle.transactions.proofs.Logs.{length-entries}
+use Rattle.undo_logs.proofs.Logs.{length-entries}
 use Rattle.admission.proofs.Blocking.{next, over}
 
 -- an entry's slot
@@ -40,15 +40,6 @@ slot-taken k l = refl
 pub by-ordered : (log : List Entry) (l : List ℕ) → Ordered 1 l → Ordered 1 (reservedBy log l)
 unfolding reservedIn
 by-ordered log l = in-ordered (record { standing = closed; locks = noLocks; log = log } ∷ []) l
-
--- a log keeps no more slots than it has entries
-pub length-by : (log : List Entry) (l : List ℕ) → length (reservedBy log l) ≤ length l + length log
-unfolding reservedBy
-length-by [] l = omega arith
-length-by (added k ∷ log) l = omega (arith, length-by log l, length-once k (reservedBy log l))
-length-by (removed k ∷ log) l = omega (arith, length-by log l, length-once k (reservedBy log l))
-length-by (pushed k ∷ log) l = omega (arith, length-by log l)
-length-by (taken k ∷ log) l = omega (arith, length-by log l)
 
 -- none so far; the next entry's slot after those of the older ones; all
 pub by-none : (w l : List ℕ) → l ≡ reservedBy (entriesOf 0 w) l

@@ -8,14 +8,16 @@ use store_words::Call;
 use store_words::QUEUE_COUNT;
 use store_words::SCRIPT_COUNT;
 use store_words::lock_of;
-use transactions::Entry;
+use transactions::LOCK_COUNT;
 use transactions::Lock;
-use transactions::Newest;
 use transactions::Standing;
+use undo_logs::Entry;
+use undo_logs::Newest;
 ghost use mathlib.Core.Path.{_≡_};
 ghost use mathlib.Core.List.{[], _∷_, map};
 ghost use mathlib.Core.Option.{some};
 ghost use Prim.Native.Nat.{_+_, _<_, _≤_};
+ghost use lib.Dec.{leb};
 ghost use lib.ListN.{length, take};
 ghost use Rattle.tables.specs.Table.{Ordered, memberOf};
 ghost use Rattle.boosting.specs.Object.{reply};
@@ -25,7 +27,8 @@ ghost use Rattle.boosting.specs.Store.{blocker};
 ghost use Rattle.boosting.specs.Room.{reservedBy, reservedIn, takesIn, scriptFull};
 ghost use Rattle.boosting.specs.Rows.{when, callRows, firstMet, request, refusalOf};
 ghost use Rattle.transactions.specs.View.{WordsFit, transactionOf};
-ghost use Rattle.transactions.specs.Code.{modelLock, modelEntry, modelNewest};
+ghost use Rattle.transactions.specs.Code.{modelLock};
+ghost use Rattle.undo_logs.specs.Code.{modelEntry, modelNewest};
 ghost use Rattle.store_words.specs.Requests.{modelCall, modelAction};
 ghost use Rattle.store_words.specs.Words.{
   ScriptFits,
@@ -40,6 +43,7 @@ ghost use Rattle.store_words.specs.Words.{
 ghost use Rattle.admission.specs.Answers.{
   modelBlocker,
   modelAdmission,
+  entriesIn,
   closedRows,
   abortingRows,
   openRows,
@@ -57,10 +61,7 @@ pub enum Blocker {
     Nobody,
 }
 
-// Where a transaction's count of cue locks is.
-const LOCK_COUNT: usize = 60;
-
-// The first transaction other than e that holds a lock on the cue.
+// The first transaction other than e that holds a lock on the cue; only those that may hold one are searched.
 fn find_holder(ts: &[[u64; 64]; 8], e: usize, key: u64) -> Blocker
     requires { ⌜ TransactionsFit (now ts) ⌝ }
     ensures { λ r. ⌜ modelBlocker r ≡ blocker e (cueLock key) 1 (map transactionOf (now (ts .entry))) ⌝ }
@@ -71,13 +72,15 @@ fn find_holder(ts: &[[u64; 64]; 8], e: usize, key: u64) -> Blocker
             break 'search Blocker::Nobody;
         }
         if i + 1 != e {
-            let n = ts[i][LOCK_COUNT] as usize;
-            let mut j = 0;
-            while j < n {
-                if ts[i][j] == key {
-                    break 'search Blocker::By(i + 1);
+            if transactions::may_hold(&ts[i], key) {
+                let n = ts[i][LOCK_COUNT] as usize;
+                let mut j = 0;
+                while j < n {
+                    if ts[i][j] == key {
+                        break 'search Blocker::By(i + 1);
+                    }
+                    j += 1;
                 }
-                j += 1;
             }
         }
         i += 1;
@@ -116,18 +119,45 @@ pub fn find_blocker(ts: &[[u64; 64]; 8], e: usize, lock: Lock) -> Blocker
     }
 }
 
+// How many entries the logs have together: an entry keeps at most one slot, of the script or of the queue.
+fn all_entries(ts: &[[u64; 64]; 8]) -> usize
+    requires { ⌜ TransactionsFit (now ts) ⌝ }
+    ensures { λ r. ⌜ (r ≡ entriesIn (map transactionOf (now (ts .entry)))) × (r ≤ 128) ⌝ }
+{
+    let mut entries: usize = 0;
+    let mut i = 0;
+    while i < 8 {
+        entries += undo_logs::entry_count(&ts[i]);
+        i += 1;
+    }
+    entries
+}
+
 // The queue's slots in use: its cues, and the take entries of the logs.
-pub fn queue_slots(queue: &[u64; 65], ts: &[[u64; 64]; 8]) -> usize
+fn queue_slots(queue: &[u64; 65], ts: &[[u64; 64]; 8]) -> usize
     requires { ⌜ QueueFits (now queue) × TransactionsFit (now ts) ⌝ }
     ensures { λ r. ⌜ r ≡ length (queueIn (now (queue .entry))) + takesIn (map transactionOf (now (ts .entry))) ⌝ }
 {
     let mut slots = queue[QUEUE_COUNT] as usize;
     let mut i = 0;
     while i < 8 {
-        slots += transactions::take_count(&ts[i]);
+        slots += undo_logs::take_count(&ts[i]);
         i += 1;
     }
     slots
+}
+
+// Whether a 65th slot of the queue is needed. The slots are counted only where there can be so many.
+fn queue_full(queue: &[u64; 65], ts: &[[u64; 64]; 8]) -> bool
+    requires { ⌜ QueueFits (now queue) × TransactionsFit (now ts) ⌝ }
+    ensures { λ r. ⌜ r
+        ≡ leb 64 (length (queueIn (now (queue .entry))) + takesIn (map transactionOf (now (ts .entry)))) ⌝ }
+{
+    let cues = queue[QUEUE_COUNT] as usize;
+    if cues + all_entries(ts) < 64 {
+        return false;
+    }
+    64 <= queue_slots(queue, ts)
 }
 
 // Whether the cue is in the script.
@@ -191,11 +221,11 @@ fn reserve_log(keys: &mut [u64], n: usize, t: &[u64; 64]) -> usize
     ensures { λ r. ⌜ (take r (now (keys .exit))
         ≡ reservedBy (transactionOf (now (t .entry)) .log) (take n (now (keys .entry)))) × (r ≤ n + 16) ⌝ }
 {
-    let entries = transactions::entry_count(t);
+    let entries = undo_logs::entry_count(t);
     let mut m = n;
     let mut j = 0;
     while j < entries {
-        let entry = transactions::entry_at(t, j);
+        let entry = undo_logs::entry_at(t, j);
         m = reserve_entry(keys, m, entry);
         j += 1;
     }
@@ -219,27 +249,14 @@ fn reserve_all(keys: &mut [u64], script: &[u64; 257], ts: &[[u64; 64]; 8]) -> us
     n
 }
 
-// No fewer than the script's slots in use: every entry of a log counts.
-fn slots_at_most(script: &[u64; 257], ts: &[[u64; 64]; 8]) -> usize
-    requires { ⌜ ScriptFits (now script) × TransactionsFit (now ts) ⌝ }
-    ensures { λ r. ⌜ length (reservedIn (map transactionOf (now (ts .entry))) (scriptIn (now (script .entry)))) ≤ r ⌝ }
-{
-    let mut slots = script[SCRIPT_COUNT] as usize;
-    let mut i = 8;
-    while 0 < i {
-        i -= 1;
-        slots += transactions::entry_count(&ts[i]);
-    }
-    slots
-}
-
 // Whether the cue needs a 257th slot of the script. The slots are counted only where there can be so many.
 fn script_full(script: &[u64; 257], ts: &[[u64; 64]; 8], key: u64) -> bool
     requires { ⌜ ScriptFits (now script) × Ordered 1 (scriptIn (now script)) × TransactionsFit (now ts) ⌝ }
     ensures { λ r. ⌜ r ≡ scriptFull (some (added key))
         (reservedIn (map transactionOf (now (ts .entry))) (scriptIn (now (script .entry)))) ⌝ }
 {
-    if slots_at_most(script, ts) < 256 {
+    let cues = script[SCRIPT_COUNT] as usize;
+    if cues + all_entries(ts) < 256 {
         return false;
     }
     let mut keys = [0; 385];
@@ -277,13 +294,13 @@ fn room_refusal(
     let Newest::Entry(noted) = entry else {
         return Admission::Accepted;
     };
-    if 16 <= transactions::entry_count(&ts[e - 1]) {
+    if 16 <= undo_logs::entry_count(&ts[e - 1]) {
         return Admission::Refused(Refusal::UndoLogFull);
     }
     match noted {
         Entry::Added(key) => refused_when(script_full(script, ts, key), Refusal::ScriptFull),
         Entry::Removed(_) => Admission::Accepted,
-        Entry::Pushed(_) => refused_when(64 <= queue_slots(queue, ts), Refusal::QueueFull),
+        Entry::Pushed(_) => refused_when(queue_full(queue, ts), Refusal::QueueFull),
         Entry::Taken(_) => Admission::Accepted,
     }
 }

@@ -3,7 +3,7 @@ ghost use mathlib.Core.Path.{_≡_};
 ghost use mathlib.Core.Bool.{cond};
 ghost use Rattle.boosting.specs.Object.{isYes, isNo, least, effect, reply, answerOf};
 ghost use Rattle.boosting.specs.Undo.{entryOf, onYes, onCue};
-ghost use Rattle.transactions.specs.Code.{modelEntry, modelNewest};
+ghost use Rattle.undo_logs.specs.Code.{modelEntry, modelNewest};
 ghost use Rattle.store_words.specs.Words.{QueueFits, queueIn, stateOf};
 ghost use Rattle.store_words.specs.Requests.{modelCall};
 ghost use Rattle.performing.specs.Replies.{modelReply};
@@ -16,8 +16,8 @@ use counted_tables::remove_key;
 use counted_tables::remove_least;
 use cues::key_cue;
 use store_words::Call;
-use transactions::Entry;
-use transactions::Newest;
+use undo_logs::Entry;
+use undo_logs::Newest;
 
 // What a call is answered; a cue by its key.
 pub enum Reply {

@@ -12,7 +12,8 @@ ghost use Rattle.boosting.specs.Room.{locksFull, logFull};
 ghost use Rattle.boosting.specs.Rows.{call as callM};
 ghost use Rattle.boosting.specs.Step.{perform as performM};
 ghost use Rattle.transactions.specs.View.{WordsFit, Made, transactionOf};
-ghost use Rattle.transactions.specs.Code.{modelLock, modelNewest};
+ghost use Rattle.transactions.specs.Code.{modelLock};
+ghost use Rattle.undo_logs.specs.Code.{modelNewest};
 ghost use Rattle.store_words.specs.Words.{storeOf};
 ghost use Rattle.store_words.specs.Requests.{modelCall, modelAction};
 ghost use Rattle.performing.specs.States.{entered};
@@ -26,12 +27,12 @@ use store_words::Action;
 use store_words::Call;
 use store_words::lock_of;
 use transactions::Lock;
-use transactions::Newest;
 use transactions::abort;
 use transactions::begin;
 use transactions::close;
 use transactions::hold;
-use transactions::note;
+use undo_logs::Newest;
+use undo_logs::note;
 
 // The transaction holds the lock, and notes the entry, if there is one.
 fn enter(t: &mut [u64; 64], lock: Lock, entry: Newest)

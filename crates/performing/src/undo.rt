@@ -3,7 +3,7 @@ ghost use Prim.Native.Nat.{_≤_};
 ghost use Rattle.boosting.specs.Undo.{inverse};
 ghost use Rattle.boosting.specs.Rows.{rollBack};
 ghost use Rattle.boosting.specs.Step.{perform};
-ghost use Rattle.transactions.specs.Code.{modelEntry, modelNewest};
+ghost use Rattle.undo_logs.specs.Code.{modelEntry, modelNewest};
 ghost use Rattle.store_words.specs.Words.{stateOf, storeOf};
 ghost use Rattle.performing.specs.States.{StateFits, StateHolds, HasRoom, undone};
 ghost use Rattle.performing.specs.Performed.{Ready, Performed};
@@ -11,11 +11,11 @@ use answers::Answer;
 use counted_tables::insert_key;
 use counted_tables::put_once;
 use counted_tables::remove_key;
-use transactions::Entry;
-use transactions::Newest;
-use transactions::entry_count;
-use transactions::newest_entry;
-use transactions::unwind;
+use undo_logs::Entry;
+use undo_logs::Newest;
+use undo_logs::entry_count;
+use undo_logs::newest_entry;
+use undo_logs::unwind;
 
 // The inverse of what an entry notes.
 pub fn undo_entry(script: &mut [u64; 257], queue: &mut [u64; 65], entry: Entry)

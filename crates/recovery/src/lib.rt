@@ -11,8 +11,8 @@ ghost use Rattle.performing.specs.Performed.{Shows};
 use performing::roll_back;
 use transactions::Standing;
 use transactions::abort;
-use transactions::entry_count;
 use transactions::standing_of;
+use undo_logs::entry_count;
 
 // An open transaction is aborting from now on; any other refuses, and nothing changes.
 fn abort_open(script: &mut [u64; 257], queue: &mut [u64; 65], ts: &mut [[u64; 64]; 8], e: usize)

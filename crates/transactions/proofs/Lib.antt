@@ -1,6 +1,6 @@
 -- Laws of the words, by what they show.
 pub mod Words
+pub mod Sieve
 pub mod Standings
 pub mod Locks
-pub mod Logs
 pub mod Theorems

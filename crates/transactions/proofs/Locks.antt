@@ -1,10 +1,11 @@
 -- The locks in their words: room for one more, and one more held. Assumes nothing.
-use Prim.Native.Nat.{ℕ, _+_, _≤_, _<_}
+use Prim.Native.Nat.{ℕ, _+_, _%_, _^_, _≤_, _<_}
 use mathlib.Core.Path.{_≡_, refl}
 use mathlib.Core.Bool.{Bool, true, false, not}
 use mathlib.Core.List.{List, [], _∷_, _++_}
 use native.Mathlib.Numerals.{add-one}
 use native.Mathlib.Omega.{arith}
+use lib.Bits.{bitOr}
 use lib.Dec.{ltb, leb}
 use borrow.Author.Tests.{leb-false, lt-ltb, le-leb, lt-leb}
 use lib.ListN.{length, take, getD, set, length-set}
@@ -14,6 +15,7 @@ use Rattle.tables.proofs.Laws.{split}
 use Rattle.boosting.specs.Locks.{cueLock, pushMode, lookMode, takeMode, hold}
 use Rattle.boosting.specs.Room.{locksFull}
 use Rattle.transactions.specs.View.{locksOf, transactionOf, WordsFit, Made, withLock}
+use Rattle.transactions.proofs.Sieve.{sieved-more}
 use Rattle.transactions.proofs.Words.{
   other,
   same,
@@ -58,22 +60,26 @@ module _ (w : List ℕ) (f : WordsFit w) where
   unfolding hold
   held-already key m = record { is = rw m; fits = f }
 
-  pub held-now : (key n : ℕ) → memberOf key cues ≡ false → n ≡ getD w 60 0 → n < 24
-      → Made (set (set w n key) 60 (n + 1)) (withLock (cueLock key) (transactionOf w))
+  pub held-now : (key n s : ℕ) → memberOf key cues ≡ false → n ≡ getD w 60 0 → n < 24
+      → s ≡ bitOr (getD w 62 0) (2 ^ (key % 63))
+      → Made (set (set (set w n key) 60 (n + 1)) 62 s) (withLock (cueLock key) (transactionOf w))
   unfolding hold
-  held-now key n m e h =
+  held-now key n s m e h q =
       let l : length w ≡ 64 = f .long in
       let a : ltb n 24 ≡ true = lt-ltb n 24 h in
       let o : offLog n ≡ true = rw a in
       let b : leb (n + 1) 60 ≡ true = le-leb (n + 1) 60 (omega arith) in
+      let b2 : leb (n + 1) 62 ≡ true = le-leb (n + 1) 62 (omega arith) in
       let c : take (n + 1) (set w n key) ≡ cues ++ (key ∷ []) =
       rw (← e, add-one) (take-suc-set w n key (omega arith)) in
       record {
-        is = simp (other, same, keep, keep-log, past-locks, length-set, l, a, o, b, c, m, log-fits w f);
+        is = simp (other, same, keep, keep-log, past-locks, length-set, l, a, o, b, b2, c, m, log-fits w f);
         fits = record {
           long = simp (length-set, l);
-          lock-count-le = simp (same, length-set, l) (omega arith);
+          lock-count-le = simp (other, same, length-set, l) (omega arith);
           entry-count-le = simp (other, past-locks, a) (f .entry-count-le);
+          sieved =
+              simp (other, same, keep, length-set, l, b, b2, c) (rw q (sieved-more (getD w 62 0) key cues (f .sieved)));
         };
       }
 

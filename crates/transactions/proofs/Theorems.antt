@@ -8,4 +8,7 @@ use Rattle.transactions.specs.View.{ZeroWordsClosed}
 pub zero-words-closed : ZeroWordsClosed
 unfolding closedTransaction noLocks
 zero-words-closed =
-    record { is = refl; fits = record { long = refl; lock-count-le = omega arith; entry-count-le = omega arith } }
+    record {
+      is = refl;
+      fits = record { long = refl; lock-count-le = omega arith; entry-count-le = omega arith; sieved = tt };
+    }

@@ -65,9 +65,16 @@ module _ (w : List ℕ) (f : WordsFit w) where
   pub log-fits : leb (getD w 61 0) 16 ≡ true
   log-fits = le-leb (getD w 61 0) 16 (f .entry-count-le)
 
-  pub fits-after : (j x : ℕ) → eqb 60 j ≡ false → eqb 61 j ≡ false → WordsFit (set w j x)
-  fits-after j x a b = record {
-    long = simp (length-set, f .long);
-    lock-count-le = simp (other, a) (f .lock-count-le);
-    entry-count-le = simp (other, b) (f .entry-count-le);
-  }
+  pub fits-after : (j x : ℕ) → leb 24 j ≡ true → ltb j 60 ≡ true → WordsFit (set w j x)
+  fits-after j x a b =
+      let l : leb (getD w 60 0) j ≡ true = locks-before j a in
+      let h : j < 60 = ltb-true j 60 b in
+      let n : eqb 60 j ≡ false = ne-eqb 60 j (λ e. omega (arith, e)) in
+      let m : eqb 61 j ≡ false = ne-eqb 61 j (λ e. omega (arith, e)) in
+      let s : eqb 62 j ≡ false = ne-eqb 62 j (λ e. omega (arith, e)) in
+      record {
+        long = simp (length-set, f .long);
+        lock-count-le = simp (other, n) (f .lock-count-le);
+        entry-count-le = simp (other, m) (f .entry-count-le);
+        sieved = simp (other, n, s, keep, l) (f .sieved);
+      }

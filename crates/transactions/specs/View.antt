@@ -1,7 +1,8 @@
 -- The transaction that 64 words show. Words 0 to 23 are the keys of the cue locks, 24 to 39 the keys of the undo log's
 -- entries and 40 to 55 their kinds, oldest first; 56 is the standing; 57 to 59 are the queue's modes push, look and
--- take; 60 counts the cue locks, 61 the entries. Words past a count, 62 and 63 mean nothing. Assumes nothing.
-use Prim.Native.Nat.{ℕ, zero, suc, _+_, _≤_}
+-- take; 60 counts the cue locks, 61 the entries; 62 is the sieve of the cue locks, which shows no more than they do.
+-- Words past a count and 63 mean nothing. Assumes nothing.
+use Prim.Native.Nat.{ℕ, zero, suc, _+_, _/_, _%_, _^_, _≤_}
 use mathlib.Core.Path.{_≡_}
 use mathlib.Core.Bool.{cond}
 use mathlib.Core.List.{List, [], _∷_, tail}
@@ -43,11 +44,21 @@ transactionOf w = record {
   log = entriesOf (getD w 61 0) w;
 }
 
--- what the functions need of the words, and keep: the counts are within the tables
+-- a sieve has the bit of this key, and those of all these keys
+abbrev pub HasBit : ℕ → ℕ → Type 0
+HasBit sieve k = sieve / 2 ^ (k % 63) % 2 ≡ 1
+
+abbrev pub Sieved : ℕ → List ℕ → Type 0
+Sieved sieve [] = Unit {0}
+Sieved sieve (k ∷ keys) = HasBit sieve k × Sieved sieve keys
+
+-- what the functions need of the words, and keep: the counts are within the tables, and no cue lock falls through
+-- the sieve
 pub record WordsFit (w : List ℕ) : Type 0 where
   pub long : length w ≡ 64
   pub lock-count-le : getD w 60 0 ≤ 24
   pub entry-count-le : getD w 61 0 ≤ 16
+  pub sieved : Sieved (getD w 62 0) (take (getD w 60 0) w)
 
 -- the words show this transaction
 pub record Made (w : List ℕ) (t : Transaction) : Type 0 where

@@ -1,30 +1,21 @@
 // One transaction, kept in 64 lent words and altered in place.
 //
 // The words hold the cue locks, the undo log, the standing and the queue's modes (`specs/View`); each function
-// does to them what the model does to a transaction. A `requires` asks for what opening and stepping establish:
-// that the counts are in range, and that there is room where the model's rows have found it.
+// does to them what the model does to a transaction (`undo_logs` has those of the log). A `requires` asks for what
+// opening and stepping establish: that the counts are in range, that the sieve has the bit of each cue lock, and
+// that there is room where the model's rows have found it.
 ghost use mathlib.Core.Path.{_≡_};
 ghost use mathlib.Core.Bool.{false};
-ghost use mathlib.Core.List.{head?};
-ghost use Prim.Native.Nat.{_<_, _≤_};
+ghost use Prim.Native.Nat.{_%_, _^_};
 ghost use lib.ListN.{length};
+ghost use lib.Bits.{bitOr};
 ghost use Rattle.tables.specs.Table.{memberOf};
 ghost use Rattle.boosting.specs.Locks.{cueLock, conflicts};
-ghost use Rattle.boosting.specs.Store.{aborting, closedTransaction, openTransaction};
-ghost use Rattle.boosting.specs.Room.{locksFull, takesBy};
+ghost use Rattle.boosting.specs.Store.{closedTransaction, openTransaction};
+ghost use Rattle.boosting.specs.Room.{locksFull};
 ghost use Rattle.boosting.specs.Step.{aborted};
-ghost use Rattle.transactions.specs.View.{
-  WordsFit,
-  Made,
-  transactionOf,
-  entryFrom,
-  entryAt,
-  withLock,
-  withEntry,
-  withoutNewest,
-  unwoundOnce,
-};
-ghost use Rattle.transactions.specs.Code.{modelLock, modelEntry, modelStanding, modelNewest};
+ghost use Rattle.transactions.specs.View.{WordsFit, Made, transactionOf, withLock};
+ghost use Rattle.transactions.specs.Code.{modelLock, modelStanding};
 
 // A lock on the cue with this key, or one of the queue's modes.
 pub enum Lock {
@@ -34,14 +25,6 @@ pub enum Lock {
     Take,
 }
 
-// What the undo log notes of a call that changed something, with the cue's key.
-pub enum Entry {
-    Added(u64),
-    Removed(u64),
-    Pushed(u64),
-    Taken(u64),
-}
-
 // An aborting transaction still holds its locks.
 pub enum Standing {
     Closed,
@@ -49,17 +32,7 @@ pub enum Standing {
     Aborting,
 }
 
-// The newest entry of a log, if there is one.
-pub enum Newest {
-    Entry(Entry),
-    Nothing,
-}
-
-// Where the words of the log, the standing, the modes and the counts are; the cue locks come first.
-const ENTRY_KEYS: usize = 24;
-
-const ENTRY_KINDS: usize = 40;
-
+// Where the words of the standing, the modes and the counts are; the cue locks come first.
 const STANDING: usize = 56;
 
 const PUSHES: usize = 57;
@@ -68,24 +41,19 @@ const LOOKS: usize = 58;
 
 const TAKES: usize = 59;
 
-const LOCK_COUNT: usize = 60;
+pub const LOCK_COUNT: usize = 60;
 
-const ENTRY_COUNT: usize = 61;
+pub const ENTRY_COUNT: usize = 61;
 
-// What the words of the standing and of an entry's kind say; a mode that is held is 1.
+// Where the sieve is: it has the bit `key % 63` of each cue lock, so that most locks are ruled out at a glance.
+const SIEVE: usize = 62;
+
+// What the standing's word says; a mode that is held is 1.
 const CLOSED: u64 = 0;
 
 const OPEN: u64 = 1;
 
 const ABORTING: u64 = 2;
-
-const ADDED: u64 = 0;
-
-const REMOVED: u64 = 1;
-
-const PUSHED: u64 = 2;
-
-const TAKEN: u64 = 3;
 
 // How the transaction stands.
 pub fn standing_of(t: &[u64; 64]) -> Standing
@@ -109,6 +77,7 @@ pub fn close(t: &mut [u64; 64])
     t[TAKES] = 0;
     t[LOCK_COUNT] = 0;
     t[ENTRY_COUNT] = 0;
+    t[SIEVE] = 0;
 }
 
 // The transaction opens, with no lock and no entry.
@@ -128,11 +97,22 @@ pub fn abort(t: &mut [u64; 64])
     t[STANDING] = ABORTING;
 }
 
+// Whether a cue lock with this key can be held: the sieve has the key's bit.
+pub fn may_hold(t: &[u64; 64], key: u64) -> bool
+    requires { ⌜ WordsFit (now t) ⌝ }
+    ensures { λ r. ⌜ (r ≡ false → memberOf key (transactionOf (now (t .entry)) .locks .cues) ≡ false) ⌝ }
+{
+    (t[SIEVE] >> (key % 63)) % 2 == 1
+}
+
 // Whether a cue lock with this key is held.
 pub fn holds_cue(t: &[u64; 64], key: u64) -> bool
     requires { ⌜ WordsFit (now t) ⌝ }
     ensures { λ r. ⌜ r ≡ memberOf key (transactionOf (now (t .entry)) .locks .cues) ⌝ }
 {
+    if !may_hold(t, key) {
+        return false;
+    }
     let n = t[LOCK_COUNT] as usize;
     let mut j = 0;
     while j < n {
@@ -175,6 +155,13 @@ pub fn locks_full(t: &[u64; 64], lock: Lock) -> bool
     }
 }
 
+// The sieve with the key's bit set.
+fn with_bit(sieve: u64, key: u64) -> u64
+    ensures { λ r. ⌜ r ≡ bitOr sieve (2 ^ (key % 63)) ⌝ }
+{
+    sieve | (1 << (key % 63))
+}
+
 // The cue lock is held, once.
 fn hold_cue(t: &mut [u64; 64], key: u64)
     requires { ⌜ WordsFit (now t) ⌝ }
@@ -185,8 +172,10 @@ fn hold_cue(t: &mut [u64; 64], key: u64)
         return;
     }
     let n = t[LOCK_COUNT] as usize;
+    let sieve = with_bit(t[SIEVE], key);
     t[n] = key;
     t[LOCK_COUNT] = (n + 1) as u64;
+    t[SIEVE] = sieve;
 }
 
 // The lock is held, once, besides those that were.
@@ -207,102 +196,4 @@ pub fn hold(t: &mut [u64; 64], lock: Lock)
             t[TAKES] = 1;
         }
     }
-}
-
-// How many entries the log has.
-pub fn entry_count(t: &[u64; 64]) -> usize
-    requires { ⌜ WordsFit (now t) ⌝ }
-    ensures { λ r. ⌜ (r ≡ length (transactionOf (now (t .entry)) .log)) × (r ≤ 16) ⌝ }
-{
-    t[ENTRY_COUNT] as usize
-}
-
-// The entry at a place of the log, the oldest at 0.
-pub fn entry_at(t: &[u64; 64], j: usize) -> Entry
-    requires { ⌜ j < 16 ⌝ }
-    ensures { λ r. ⌜ modelEntry r ≡ entryAt j (now (t .entry)) ⌝ }
-{
-    let key = t[ENTRY_KEYS + j];
-    match t[ENTRY_KINDS + j] {
-        ADDED => Entry::Added(key),
-        REMOVED => Entry::Removed(key),
-        PUSHED => Entry::Pushed(key),
-        _ => Entry::Taken(key),
-    }
-}
-
-// The newest entry, which is undone first.
-pub fn newest_entry(t: &[u64; 64]) -> Newest
-    requires { ⌜ WordsFit (now t) ⌝ }
-    ensures { λ r. ⌜ modelNewest r ≡ head? (transactionOf (now (t .entry)) .log) ⌝ }
-{
-    let n = entry_count(t);
-    if n == 0 {
-        return Newest::Nothing;
-    }
-    Newest::Entry(entry_at(t, n - 1))
-}
-
-// One more entry, of this kind and key.
-fn note_words(t: &mut [u64; 64], kind: u64, key: u64)
-    requires { ⌜ WordsFit (now t) × (length (transactionOf (now t) .log) < 16) ⌝ }
-    ensures { λ r. ⌜ Made (now (t .exit)) (withEntry (entryFrom kind key) (transactionOf (now (t .entry)))) ⌝ }
-{
-    let n = t[ENTRY_COUNT] as usize;
-    t[ENTRY_KEYS + n] = key;
-    t[ENTRY_KINDS + n] = kind;
-    t[ENTRY_COUNT] = (n + 1) as u64;
-}
-
-// The log notes one more entry.
-pub fn note(t: &mut [u64; 64], entry: Entry)
-    requires { ⌜ WordsFit (now t) × (length (transactionOf (now t) .log) < 16) ⌝ }
-    ensures { λ r. ⌜ Made (now (t .exit)) (withEntry (modelEntry entry) (transactionOf (now (t .entry)))) ⌝ }
-{
-    match entry {
-        Entry::Added(key) => note_words(t, ADDED, key),
-        Entry::Removed(key) => note_words(t, REMOVED, key),
-        Entry::Pushed(key) => note_words(t, PUSHED, key),
-        Entry::Taken(key) => note_words(t, TAKEN, key),
-    }
-}
-
-// The log loses its newest entry, if there is one.
-pub fn drop_newest(t: &mut [u64; 64])
-    requires { ⌜ WordsFit (now t) ⌝ }
-    ensures { λ r. ⌜ Made (now (t .exit)) (withoutNewest (transactionOf (now (t .entry)))) ⌝ }
-{
-    let n = t[ENTRY_COUNT];
-    if n != 0 {
-        t[ENTRY_COUNT] = n - 1;
-    }
-}
-
-// The newest entry is undone: the log loses it, and with no entry left the transaction closes.
-pub fn unwind(t: &mut [u64; 64])
-    requires { ⌜ WordsFit (now t) ⌝ }
-    requires { ⌜ transactionOf (now t) .standing ≡ aborting ⌝ }
-    ensures { λ r. ⌜ Made (now (t .exit)) (unwoundOnce (transactionOf (now (t .entry)))) ⌝ }
-{
-    drop_newest(t);
-    if entry_count(t) == 0 {
-        close(t);
-    }
-}
-
-// How many of the log's entries note a take: each keeps a slot of the queue.
-pub fn take_count(t: &[u64; 64]) -> usize
-    requires { ⌜ WordsFit (now t) ⌝ }
-    ensures { λ r. ⌜ (r ≡ takesBy (transactionOf (now (t .entry)) .log)) × (r ≤ 16) ⌝ }
-{
-    let n = t[ENTRY_COUNT] as usize;
-    let mut takes: usize = 0;
-    let mut j = 0;
-    while j < n {
-        if TAKEN <= t[ENTRY_KINDS + j] {
-            takes += 1;
-        }
-        j += 1;
-    }
-    takes
 }

@@ -6,7 +6,8 @@ use borrow.Author.Needs.{needs}
 use lib.ListN.{length}
 use Rattle.boosting.specs.Store.{Transaction}
 use Rattle.boosting.specs.Room.{locksFull}
-use Rattle.transactions.specs.Code.{modelLock, modelNewest}
+use Rattle.transactions.specs.Code.{modelLock}
+use Rattle.undo_logs.specs.Code.{modelNewest}
 use Rattle.store_words.specs.Words.{storeOf}
 use Rattle.store_words.specs.Requests.{modelCall}
 use Rattle.admission.specs.Answers.{modelBlocker}

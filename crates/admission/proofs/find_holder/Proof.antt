@@ -1,5 +1,5 @@
--- `admission::find_holder` meets its contract: what is left to search decides, of the transactions and of a
--- transaction's locks. Assumes nothing.
+-- `admission::find_holder` meets its contract: what is left to search decides, of the transactions and of the
+-- locks of one that may hold the cue. Assumes nothing.
 use Prim.Native.Nat.{_-_, _+_, _≤_, _<_}
 use mathlib.Core.Path.{_≡_, refl, sym, _∙_}
 use mathlib.Core.Bool.{true, false}
@@ -42,6 +42,17 @@ search-holds c = (omega arith, refl)
 add-if2 : tie.Need-add-if2 Inv-loop μ-loop Inv-search μ-search
 add-if2 c = omega arith
 
+mul-may-hold : tie.Need-mul-may-hold Inv-loop μ-loop Inv-search μ-search
+mul-may-hold c = omega arith
+
+index-1-may-hold : tie.Need-index-1-may-hold Inv-loop μ-loop Inv-search μ-search
+index-1-may-hold c = omega arith
+
+may-hold-requires : tie.Need-may-hold-requires Inv-loop μ-loop Inv-search μ-search
+may-hold-requires c κs =
+    let s = c .before .before .before .before in
+    fit-at (s .args .ts .now) (s .pre .each) (c .before .before .before .search .i) (omega (arith, s .pre .eight))
+
 mul-n : tie.Need-mul-n Inv-loop μ-loop Inv-search μ-search
 mul-n c = omega arith
 
@@ -53,25 +64,26 @@ index-2-n c = omega arith
 
 loop-holds : tie.Need-loop-holds Inv-loop μ-loop Inv-search μ-search
 loop-holds c =
-    let s = c .before .before .before .before in
-    let i = c .before .before .before .search .i in
+    let o = c .before .before .before .before .before .before in
+    let s = o .before in
+    let i = o .search .i in
     let f = fit-at (s .args .ts .now) (s .pre .each) i (omega arith) in
     (f .lock-count-le, f .long, omega arith, omega arith, refl)
 
-mul-if3 : tie.Need-mul-if3 Inv-loop μ-loop Inv-search μ-search
-mul-if3 c = omega arith
+mul-if4 : tie.Need-mul-if4 Inv-loop μ-loop Inv-search μ-search
+mul-if4 c = omega arith
 
-mul-if3-2 : tie.Need-mul-if3-2 Inv-loop μ-loop Inv-search μ-search
-mul-if3-2 c = omega arith
+mul-if4-2 : tie.Need-mul-if4-2 Inv-loop μ-loop Inv-search μ-search
+mul-if4-2 c = omega arith
 
-index-1-if3 : tie.Need-index-1-if3 Inv-loop μ-loop Inv-search μ-search
-index-1-if3 c = omega arith
+index-1-if4 : tie.Need-index-1-if4 Inv-loop μ-loop Inv-search μ-search
+index-1-if4 c = omega arith
 
-index-2-if3 : tie.Need-index-2-if3 Inv-loop μ-loop Inv-search μ-search
-index-2-if3 c = omega arith
+index-2-if4 : tie.Need-index-2-if4 Inv-loop μ-loop Inv-search μ-search
+index-2-if4 c = omega arith
 
-add-t25 : tie.Need-add-t25 Inv-loop μ-loop Inv-search μ-search
-add-t25 c = omega arith
+add-t30 : tie.Need-add-t30 Inv-loop μ-loop Inv-search μ-search
+add-t30 c = omega arith
 
 add-j : tie.Need-add-j Inv-loop μ-loop Inv-search μ-search
 add-j c = omega arith
@@ -81,12 +93,13 @@ loop-less c = omega arith
 
 loop-again : tie.Need-loop-again Inv-loop μ-loop Inv-search μ-search
 loop-again c =
-    let s = c .before .before .before .before .before .before .before .before in
-    let i = c .before .before .before .before .before .before .before .search .i in
+    let o = c .before .before .before .before .before .before .before .before .before .before in
+    let s = o .before in
+    let i = o .search .i in
     let v = c .before .before .before .loop in
     let w = getD (s .args .ts .now) i [] in
     let h = c .before .before .loop-test .taken in
-    let m = member-miss (s .args .key) w (getD w 60 0) (v .j) h (omega (arith, v .inv)) (c .if3 .left) in
+    let m = member-miss (s .args .key) w (getD w 60 0) (v .j) h (omega (arith, v .inv)) (c .if4 .left) in
     (v .inv .0, v .inv .1, v .inv .2, omega arith, m ∙ v .inv .4)
 
 add-i : tie.Need-add-i Inv-loop μ-loop Inv-search μ-search
@@ -108,9 +121,13 @@ search-again c =
     ⊎-elim
     (λ g.
     let m : memberOf key (take (getD w 60 0) w) ≡ false =
-    sym (g .2 .inv .4) ∙ member-over key w (getD w 60 0) (g .2 .j) (omega (arith, g .2 .inv)) (g .3 .left) in
+    sym (g .5 .inv .4) ∙ member-over key w (getD w 60 0) (g .5 .j) (omega (arith, g .5 .inv)) (g .6 .left) in
     no-conflict ts (s .args .e) (cueLock key) i h (g .0 .taken) (cue-conflict key w false m))
-    (λ g. own ts (s .args .e) (cueLock key) i h (g .left))
+    (⊎-elim
+    (λ g.
+    no-conflict ts (s .args .e) (cueLock key) i h (g .0 .taken)
+    (cue-conflict key w false (g .2 .ensures (g .3 .left))))
+    (λ g. own ts (s .args .e) (cueLock key) i h (g .left)))
     (c .if2 .came) in
     (omega arith, sym q ∙ v .inv .1)
 
@@ -123,16 +140,17 @@ returns c =
 
 returns-2 : tie.Need-returns-2 Inv-loop μ-loop Inv-search μ-search
 returns-2 c =
-    let s = c .before .before .before .before .before .before .before .before in
-    let o = c .before .before .before .before .before .before .before .search in
+    let p = c .before .before .before .before .before .before .before .before in
+    let s = p .before .before .before in
+    let o = p .before .before .search in
     let v = c .before .before .before .loop in
     let key = s .args .key in
     let ts = s .args .ts .now in
     let w = getD ts (o .i) [] in
     let h = c .before .before .loop-test .taken in
     let m : memberOf key (take (getD w 60 0) w) ≡ true =
-    sym (v .inv .4) ∙ member-hit key w (getD w 60 0) (v .j) h (omega (arith, v .inv)) (c .if3 .taken) in
-    let n = c .before .before .before .before .before .if2 .taken in
+    sym (v .inv .4) ∙ member-hit key w (getD w 60 0) (v .j) h (omega (arith, v .inv)) (c .if4 .taken) in
+    let n = p .if2 .taken in
     let q =
     conflict ts (s .args .e) (cueLock key) (o .i) (omega (arith, s .pre .eight)) n (cue-conflict key w true m) in
     sym (sym (o .inv .1) ∙ q)
@@ -147,15 +165,18 @@ find-holder-spec =
     μ-search
     search-holds
     add-if2
+    mul-may-hold
+    index-1-may-hold
+    may-hold-requires
     mul-n
     index-1-n
     index-2-n
     loop-holds
-    mul-if3
-    mul-if3-2
-    index-1-if3
-    index-2-if3
-    add-t25
+    mul-if4
+    mul-if4-2
+    index-1-if4
+    index-2-if4
+    add-t30
     add-j
     loop-less
     loop-again

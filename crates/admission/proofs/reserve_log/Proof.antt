@@ -5,7 +5,7 @@ use native.Mathlib.Omega.{arith}
 use lib.ListN.{length, take, getD}
 use Rattle.boosting.specs.Room.{reservedBy}
 use Rattle.transactions.specs.View.{entriesOf}
-use Rattle.transactions.specs.Code.{modelEntry}
+use Rattle.undo_logs.specs.Code.{modelEntry}
 use Rattle.admission.proofs.ScriptSlots.{by-ordered, by-none, by-more, by-all}
 use Rattle.admission.proofs.reserve_log.Statement.{statement}
 use Rattle.admission.proofs.reserve_log.Tie as tie

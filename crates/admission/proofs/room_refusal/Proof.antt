@@ -1,14 +1,13 @@
 -- `admission::room_refusal` meets its contract, by the entry. Assumes nothing.
-use Prim.Native.Nat.{ℕ, _-_}
+use Prim.Native.Nat.{_-_}
 use mathlib.Core.Path.{ap, _∙_}
 use mathlib.Core.Bool.{Bool}
 use mathlib.Core.Option.{some}
 use native.Mathlib.Omega.{arith}
 use borrow.Author.Needs.{needs}
-use lib.Dec.{leb}
 use Rattle.refusals.specs.declared.Refusal.the-variants.{ScriptFull, QueueFull}
 use Rattle.boosting.specs.Rows.{when}
-use Rattle.transactions.specs.Code.{modelEntry, modelNewest}
+use Rattle.undo_logs.specs.Code.{modelEntry, modelNewest}
 use Rattle.admission.proofs.Blocking.{fit-at}
 use Rattle.admission.proofs.Rows.{no-entry, log-full, adds, removes, pushes, takes}
 use Rattle.admission.proofs.room_refusal.Statement.{statement}
@@ -64,8 +63,8 @@ enum-told-2 c = search needs
 enum-told-3 : tie.Need-enum-told-3
 enum-told-3 c = search needs
 
-queue-slots-requires : tie.Need-queue-slots-requires
-queue-slots-requires c κs = search needs
+queue-full-requires : tie.Need-queue-full-requires
+queue-full-requires c κs = search needs
 
 refused-when-requires-2 : tie.Need-refused-when-requires-2
 refused-when-requires-2 c κs = search needs
@@ -103,11 +102,10 @@ returns-5 c =
     let a = s .args in
     let g = p .before .before .before .before .entry .given in
     let n = c .before .before .enum-told3 .given in
-    let w = ap (λ (m : ℕ). when (leb 64 m) QueueFull) (c .before .queue-slots .ensures) in
     pushes (a .script .now) (a .queue .now) (a .ts .now) (a .e) _ (s .pre .1) (s .pre .2)
     (s .pre .0 .transactions .eight) _ (p .before .entry-count .ensures .0) (n .0 .0) (p .if1 .left)
     (ap modelNewest (g .1) ∙ ap (λ x. some (modelEntry x)) (n .1))
-    (c .refused-when2 .ensures ∙ w)
+    (c .refused-when2 .ensures ∙ ap (λ (b : Bool). when b QueueFull) (c .before .queue-full .ensures))
 
 returns-6 : tie.Need-returns-6
 returns-6 c =
@@ -137,7 +135,7 @@ room-refusal-spec =
     refused-when-requires
     enum-told-2
     enum-told-3
-    queue-slots-requires
+    queue-full-requires
     refused-when-requires-2
     enum-told-4
     returns-3

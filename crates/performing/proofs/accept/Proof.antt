@@ -5,7 +5,8 @@ use Rattle.boosting.specs.Object.{answerOf}
 use Rattle.boosting.specs.Undo.{entryOf}
 use Rattle.boosting.specs.Rows.{call}
 use mathlib.Core.Bool.{true}
-use Rattle.transactions.specs.Code.{modelLock, modelNewest}
+use Rattle.transactions.specs.Code.{modelLock}
+use Rattle.undo_logs.specs.Code.{modelNewest}
 use Rattle.store_words.specs.Requests.{modelCall}
 use Rattle.performing.proofs.Stores as laws
 use Rattle.performing.proofs.accept.Statement.{statement}

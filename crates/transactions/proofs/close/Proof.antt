@@ -22,6 +22,9 @@ element-write-t-5 c = search needs
 element-write-t-6 : tie.Need-element-write-t-6
 element-write-t-6 c = search needs
 
+element-write-t-7 : tie.Need-element-write-t-7
+element-write-t-7 c = search needs
+
 returns : tie.Need-returns
 returns c = closes (c .args .t .now) (c .pre)
 
@@ -35,4 +38,5 @@ close-spec =
     element-write-t-4
     element-write-t-5
     element-write-t-6
+    element-write-t-7
     returns)

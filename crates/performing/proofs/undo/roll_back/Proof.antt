@@ -3,7 +3,7 @@ use borrow.Author.Needs.{needs}
 use native.Mathlib.Omega.{arith}
 use Prim.Native.Nat.{_-_}
 use Rattle.boosting.specs.Rows.{rollBack}
-use Rattle.transactions.specs.Code.{modelNewest}
+use Rattle.undo_logs.specs.Code.{modelNewest}
 use Rattle.performing.proofs.Stores as laws
 use Rattle.performing.proofs.undo.roll_back.Statement.{statement}
 use Rattle.performing.proofs.undo.roll_back.Tie as tie

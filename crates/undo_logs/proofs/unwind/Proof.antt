@@ -1,10 +1,10 @@
--- `transactions::unwind` meets its contract. Assumes nothing.
+-- `undo_logs::unwind` meets its contract. Assumes nothing.
 use borrow.Author.Needs.{needs}
 use mathlib.Core.Path.{sym, _∙_}
 use Rattle.transactions.specs.View.{transactionOf}
-use Rattle.transactions.proofs.Standings.{unwinds-last, unwinds-more}
-use Rattle.transactions.proofs.unwind.Statement.{statement}
-use Rattle.transactions.proofs.unwind.Tie as tie
+use Rattle.undo_logs.proofs.Rollback.{unwinds-last, unwinds-more}
+use Rattle.undo_logs.proofs.unwind.Statement.{statement}
+use Rattle.undo_logs.proofs.unwind.Tie as tie
 
 drop-newest-requires : tie.Need-drop-newest-requires
 drop-newest-requires c κs = search needs

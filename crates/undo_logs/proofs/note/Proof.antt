@@ -1,7 +1,7 @@
--- `transactions::note` meets its contract. Assumes nothing.
+-- `undo_logs::note` meets its contract. Assumes nothing.
 use borrow.Author.Needs.{needs}
-use Rattle.transactions.proofs.note.Statement.{statement}
-use Rattle.transactions.proofs.note.Tie as tie
+use Rattle.undo_logs.proofs.note.Statement.{statement}
+use Rattle.undo_logs.proofs.note.Tie as tie
 
 enum-known-entry : tie.Need-enum-known-entry
 enum-known-entry c = search needs

@@ -1,10 +1,10 @@
--- `transactions::entry_count` meets its contract. Assumes nothing.
+-- `undo_logs::entry_count` meets its contract. Assumes nothing.
 use borrow.Author.Needs.{needs}
 use mathlib.Core.Path.{sym}
 use lib.ListN.{getD}
-use Rattle.transactions.proofs.Logs.{length-entries}
-use Rattle.transactions.proofs.entry_count.Statement.{statement}
-use Rattle.transactions.proofs.entry_count.Tie as tie
+use Rattle.undo_logs.proofs.Logs.{length-entries}
+use Rattle.undo_logs.proofs.entry_count.Statement.{statement}
+use Rattle.undo_logs.proofs.entry_count.Tie as tie
 
 element-copy-out-result : tie.Need-element-copy-out-result
 element-copy-out-result c = search needs

@@ -1,9 +1,9 @@
--- `transactions::drop_newest` meets its contract. Assumes nothing.
+-- `undo_logs::drop_newest` meets its contract. Assumes nothing.
 use borrow.Author.Needs.{needs}
 use native.Mathlib.Omega.{arith}
-use Rattle.transactions.proofs.Logs.{drops, drops-none}
-use Rattle.transactions.proofs.drop_newest.Statement.{statement}
-use Rattle.transactions.proofs.drop_newest.Tie as tie
+use Rattle.undo_logs.proofs.Logs.{drops, drops-none}
+use Rattle.undo_logs.proofs.drop_newest.Statement.{statement}
+use Rattle.undo_logs.proofs.drop_newest.Tie as tie
 
 element-copy-out-n : tie.Need-element-copy-out-n
 element-copy-out-n c = search needs

@@ -1,12 +1,12 @@
--- `transactions::note_words` meets its contract. Assumes nothing.
+-- `undo_logs::note_words` meets its contract. Assumes nothing.
 use borrow.Author.Needs.{needs}
 use Prim.Native.Nat.{_<_}
 use mathlib.Core.Path.{refl}
 use native.Mathlib.Omega.{arith}
 use lib.ListN.{getD}
-use Rattle.transactions.proofs.Logs.{length-entries, note-new}
-use Rattle.transactions.proofs.note_words.Statement.{statement}
-use Rattle.transactions.proofs.note_words.Tie as tie
+use Rattle.undo_logs.proofs.Logs.{length-entries, note-new}
+use Rattle.undo_logs.proofs.note_words.Statement.{statement}
+use Rattle.undo_logs.proofs.note_words.Tie as tie
 
 element-copy-out-n : tie.Need-element-copy-out-n
 element-copy-out-n c = search needs

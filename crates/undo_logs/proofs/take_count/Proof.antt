@@ -1,4 +1,4 @@
--- `transactions::take_count` meets its contract: the takes among the first j entries are counted. Assumes nothing.
+-- `undo_logs::take_count` meets its contract: the takes among the first j entries are counted. Assumes nothing.
 use Prim.Native.Nat.{_-_, _≤_}
 use mathlib.Core.Path.{_≡_, refl}
 use mathlib.Core.Logic.{⊎-elim}
@@ -6,10 +6,10 @@ use native.Mathlib.Omega.{arith}
 use borrow.Author.Needs.{needs}
 use lib.ListN.{getD}
 use Rattle.boosting.specs.Room.{takesBy}
 use Rattle.transactions.specs.View.{entriesOf}
-use Rattle.transactions.proofs.Logs.{takes-more, takes-same}
-use Rattle.transactions.proofs.take_count.Statement.{statement}
-use Rattle.transactions.proofs.take_count.Tie as tie
+use Rattle.undo_logs.proofs.Logs.{takes-more, takes-same}
+use Rattle.undo_logs.proofs.take_count.Statement.{statement}
+use Rattle.undo_logs.proofs.take_count.Tie as tie
 
 abbrev Inv-loop : tie.InvT-loop
 Inv-loop t n takes₀ j₀ takes j = (j ≤ n) × (n ≤ 16) × (takes ≤ j) × (takes ≡ takesBy (entriesOf j t))

@@ -1,13 +1,13 @@
--- `transactions::newest_entry` meets its contract. Assumes nothing.
+-- `undo_logs::newest_entry` meets its contract. Assumes nothing.
 use borrow.Author.Needs.{needs}
 use mathlib.Core.Path.{ap, sym, _∙_}
 use mathlib.Core.Option.{some}
 use native.Mathlib.Omega.{arith}
 use lib.ListN.{getD}
-use Rattle.transactions.proofs.Logs.{newest-none, newest-some}
+use Rattle.undo_logs.proofs.Logs.{newest-none, newest-some}
 use Rattle.transactions.specs.View.{transactionOf}
-use Rattle.transactions.proofs.newest_entry.Statement.{statement}
-use Rattle.transactions.proofs.newest_entry.Tie as tie
+use Rattle.undo_logs.proofs.newest_entry.Statement.{statement}
+use Rattle.undo_logs.proofs.newest_entry.Tie as tie
 
 entry-count-requires : tie.Need-entry-count-requires
 entry-count-requires c κs = search needs

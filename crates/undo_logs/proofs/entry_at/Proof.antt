@@ -1,4 +1,4 @@
--- `transactions::entry_at` meets its contract. Assumes nothing.
+-- `undo_logs::entry_at` meets its contract. Assumes nothing.
 use borrow.Author.Needs.{needs}
 use Prim.Native.Nat.{_+_}
 use mathlib.Core.Path.{_≡_}
@@ -7,8 +7,8 @@ use native.Mathlib.Omega.{arith}
 use borrow.Author.Tests.{eq-eqb, ne-eqb}
 use lib.Dec.{eqb}
 use lib.ListN.{getD}
-use Rattle.transactions.proofs.entry_at.Statement.{statement}
-use Rattle.transactions.proofs.entry_at.Tie as tie
+use Rattle.undo_logs.proofs.entry_at.Statement.{statement}
+use Rattle.undo_logs.proofs.entry_at.Tie as tie
 
 add-key : tie.Need-add-key
 add-key c = search needs

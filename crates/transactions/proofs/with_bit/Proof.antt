@@ -1,0 +1,17 @@
+-- `transactions::with_bit` meets its contract. Assumes nothing.
+use Prim.Native.Nat.{ℕ}
+use mathlib.Core.Path.{ap}
+use borrow.Author.Needs.{needs}
+use lib.Bits.{bitOr}
+use Rattle.transactions.proofs.Sieve.{bit-made}
+use Rattle.transactions.proofs.with_bit.Statement.{statement}
+use Rattle.transactions.proofs.with_bit.Tie as tie
+
+shl-result : tie.Need-shl-result
+shl-result c = search needs
+
+returns : tie.Need-returns
+returns c = ap (λ (b : ℕ). bitOr (c .args .sieve) b) (bit-made (c .args .key))
+
+pub with-bit-spec : {M : Type 1} → statement M
+with-bit-spec = tie.close (tie.spec shl-result returns)

@@ -1,0 +1,3 @@
+-- Laws of the log's words.
+pub mod Logs
+pub mod Rollback

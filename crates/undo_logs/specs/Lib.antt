@@ -1,0 +1,2 @@
+-- What the code's enums mean.
+pub mod Code
