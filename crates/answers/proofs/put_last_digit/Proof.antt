@@ -25,7 +25,8 @@ returns c =
     let o = c .before .before in
     let s = o .before .before .before in
     let a = s .args in
-    o .put-three .ensures ∙ ap (λ (t : List ℕ). sets (a .buf .now) (a .at) (44 ∷ t)) (sym (one-digit (a .n) 10 (s .pre .1)))
+    o .put-three .ensures
+    ∙ ap (λ (t : List ℕ). sets (a .buf .now) (a .at) (44 ∷ t)) (sym (one-digit (a .n) 10 (s .pre .1)))
 
 pub put-last-digit-spec : {M : Type 1} → statement M
 put-last-digit-spec =

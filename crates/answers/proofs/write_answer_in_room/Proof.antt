@@ -78,7 +78,8 @@ returns c =
     let s = q .before .before .before in
     let a = s .args in
     arm-written _ _ _ _ Ok (q .enum-told .given .1)
-    (short-line (a .buf .now) (x .put-three .last .0) (bytes "ok\n") (a .at) (s .pre) (omega arith) (x .put-three .ensures))
+    (short-line (a .buf .now) (x .put-three .last .0) (bytes "ok\n") (a .at) (s .pre) (omega arith)
+    (x .put-three .ensures))
 
 same-length-2 : tie.Need-same-length-2
 same-length-2 c = search needs
@@ -90,7 +91,8 @@ returns-2 c =
     let s = q .before .before .before in
     let a = s .args in
     arm-written _ _ _ _ Yes (q .enum-told2 .given .1)
-    (short-line (a .buf .now) (x .put-four .last .0) (bytes "yes\n") (a .at) (s .pre) (omega arith) (x .put-four .ensures))
+    (short-line (a .buf .now) (x .put-four .last .0) (bytes "yes\n") (a .at) (s .pre) (omega arith)
+    (x .put-four .ensures))
 
 same-length-3 : tie.Need-same-length-3
 same-length-3 c = search needs
@@ -102,7 +104,8 @@ returns-3 c =
     let s = q .before .before .before in
     let a = s .args in
     arm-written _ _ _ _ No (q .enum-told3 .given .1)
-    (short-line (a .buf .now) (x .put-three2 .last .0) (bytes "no\n") (a .at) (s .pre) (omega arith) (x .put-three2 .ensures))
+    (short-line (a .buf .now) (x .put-three2 .last .0) (bytes "no\n") (a .at) (s .pre) (omega arith)
+    (x .put-three2 .ensures))
 
 same-length-4 : tie.Need-same-length-4
 same-length-4 c = search needs

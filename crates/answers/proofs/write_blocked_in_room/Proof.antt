@@ -1,6 +1,5 @@
 -- `answers::write_blocked_in_room` meets its contract. Assumes nothing.
 use mathlib.Core.Path.{sym, ap, _∙_}
-use mathlib.Core.List.{[], _∷_, _++_}
 use native.Mathlib.Omega.{arith}
 use Rattle.buffers.specs.Written.{writtenAt}
 use Rattle.lines.specs.Ascii.{bytes}
@@ -39,8 +38,8 @@ returns c =
     let s = t .before .before in
     let a = s .args in
     let word =
-    put-behind (a .buf .now) (x .put-refused-word .last .0) (y .put-two .last .0) (bytes "refused") (44 ∷ 56 ∷ []) (a .at)
-    (x .put-refused-word .ensures) (y .put-two .ensures) in
+    put-behind (a .buf .now) (x .put-refused-word .last .0) (y .put-two .last .0) (bytes "refused") (bytes ",8")
+    (a .at) (x .put-refused-word .ensures) (y .put-two .ensures) in
     digit-line (a .buf .now) (y .put-two .last .0) (z .put-last-digit .last .0) (bytes "refused,8") (a .at) (a .e)
     (s .pre) (omega arith) (t .if1 .taken) word (z .put-last-digit .ensures)
     ∙ ap (writtenAt (a .buf .now) (a .at)) (sym (blocked-line (a .e)))

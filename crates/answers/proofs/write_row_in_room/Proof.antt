@@ -28,8 +28,8 @@ returns c =
     let t = x .before .before in
     let s = t .before .before in
     let a = s .args in
-    digit-line (a .buf .now) (x .put-refused-word .last .0) (y .put-last-digit .last .0) (bytes "refused") (a .at) (a .n) (s .pre)
-    (omega arith) (t .if1 .taken) (x .put-refused-word .ensures) (y .put-last-digit .ensures)
+    digit-line (a .buf .now) (x .put-refused-word .last .0) (y .put-last-digit .last .0) (bytes "refused")
+    (a .at) (a .n) (s .pre) (omega arith) (t .if1 .taken) (x .put-refused-word .ensures) (y .put-last-digit .ensures)
 
 slice-aggregate-write-number-line : tie.Need-slice-aggregate-write-number-line
 slice-aggregate-write-number-line c = search needs
