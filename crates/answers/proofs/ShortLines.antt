@@ -43,8 +43,12 @@ pub short-line : (buf mid text : List ℕ) (at : ℕ) → at + 12 ≤ length buf
 short-line buf mid text at h n e = written buf mid text at (at + length text) (omega arith) refl e
 
 -- the number's one digit
-pub one-digit : (n b : ℕ) → n < 10 → fieldText n b ≡ (48 + n) ∷ b ∷ []
+one-digit : (n b : ℕ) → n < 10 → fieldText n b ≡ (48 + n) ∷ b ∷ []
 one-digit n b h = ap (λ (ds : List ℕ). ds ++ (b ∷ [])) (digits-small 19 n h)
+
+pub digit-put : (buf mid : List ℕ) (at n : ℕ) → n < 10 → mid ≡ sets buf at (44 ∷ (48 + n) ∷ 10 ∷ [])
+    → mid ≡ sets buf at (44 ∷ fieldText n 10)
+digit-put buf mid at n h e = e ∙ ap (λ (t : List ℕ). sets buf at (44 ∷ t)) (sym (one-digit n 10 h))
 
 -- a word and a last number of one digit
 pub digit-line : (buf m₁ m₂ word : List ℕ) (at n : ℕ) → at + 12 ≤ length buf → length word ≤ 9 → n < 10

@@ -97,7 +97,7 @@ fn write_refusal(buf: &mut [u8], at: usize, refusal: Refusal) -> Written
     write_number_line(buf, at, b"refused,", refusal_number(refusal))
 }
 
-// Writes the line of an answer part by part, each with a test of its room.
+// Writes the line of an answer, with its LF, at any place of the buffer, if it fits there.
 fn write_any_answer(buf: &mut [u8], at: usize, answer: Answer) -> Written
     ensures { λ r. ⌜ (r, now (buf .exit)) ≡ writtenAt (now (buf .entry)) at (answerText answer) ⌝ }
 {
@@ -112,8 +112,10 @@ fn write_any_answer(buf: &mut [u8], at: usize, answer: Answer) -> Written
     }
 }
 
-// ---- Short lines, stored straight where twelve bytes fit: most answers are one, so the room is tested once for them.
+// ---- Short lines: most answers have one. Where twelve bytes fit, as the longest of them has, they are stored straight,
+// with no test of the room and no digits counted. The compiler makes one store of the bytes of `put_two` to `put_four`.
 
+// Two bytes, at a place where they fit.
 fn put_two(buf: &mut [u8], at: usize, a: u8, b: u8)
     requires { ⌜ at + 2 ≤ length (now buf) ⌝ }
     ensures { λ _. ⌜ now (buf .exit) ≡ sets (now (buf .entry)) at (a ∷ b ∷ []) ⌝ }
@@ -122,6 +124,7 @@ fn put_two(buf: &mut [u8], at: usize, a: u8, b: u8)
     buf[at + 1] = b;
 }
 
+// Three bytes, at a place where they fit.
 fn put_three(buf: &mut [u8], at: usize, a: u8, b: u8, c: u8)
     requires { ⌜ at + 3 ≤ length (now buf) ⌝ }
     ensures { λ _. ⌜ now (buf .exit) ≡ sets (now (buf .entry)) at (a ∷ b ∷ c ∷ []) ⌝ }
@@ -131,6 +134,7 @@ fn put_three(buf: &mut [u8], at: usize, a: u8, b: u8, c: u8)
     buf[at + 2] = c;
 }
 
+// Four bytes, at a place where they fit.
 fn put_four(buf: &mut [u8], at: usize, a: u8, b: u8, c: u8, d: u8)
     requires { ⌜ at + 4 ≤ length (now buf) ⌝ }
     ensures { λ _. ⌜ now (buf .exit) ≡ sets (now (buf .entry)) at (a ∷ b ∷ c ∷ d ∷ []) ⌝ }
@@ -141,7 +145,7 @@ fn put_four(buf: &mut [u8], at: usize, a: u8, b: u8, c: u8, d: u8)
     buf[at + 3] = d;
 }
 
-// The comma (44), the one digit of n and the LF that end a line.
+// The comma (44), the digit of n and the LF that end a line, at a place where they fit.
 fn put_last_digit(buf: &mut [u8], at: usize, n: u64)
     requires { ⌜ (at + 3 ≤ length (now buf)) × (n < 10) ⌝ }
     ensures { λ _. ⌜ now (buf .exit) ≡ sets (now (buf .entry)) at (44 ∷ fieldText n 10) ⌝ }
@@ -149,6 +153,7 @@ fn put_last_digit(buf: &mut [u8], at: usize, n: u64)
     put_three(buf, at, b',', (48 + n) as u8, b'\n');
 }
 
+// The word that both lines of refusals begin with, at a place where it fits.
 fn put_refused_word(buf: &mut [u8], at: usize)
     requires { ⌜ at + 7 ≤ length (now buf) ⌝ }
     ensures { λ _. ⌜ now (buf .exit) ≡ sets (now (buf .entry)) at (bytes "refused") ⌝ }
@@ -157,10 +162,10 @@ fn put_refused_word(buf: &mut [u8], at: usize)
     put_three(buf, at + 4, b's', b'e', b'd');
 }
 
+// Writes the line `left,n` with its LF where twelve bytes fit.
 fn write_left_in_room(buf: &mut [u8], at: usize, n: u64) -> Written
     requires { ⌜ at + 12 ≤ length (now buf) ⌝ }
-    ensures { λ r. ⌜ (r, now (buf .exit))
-        ≡ writtenAt (now (buf .entry)) at (bytes "left," ++ fieldText n 10) ⌝ }
+    ensures { λ r. ⌜ (r, now (buf .exit)) ≡ writtenAt (now (buf .entry)) at (bytes "left," ++ fieldText n 10) ⌝ }
 {
     if n < 10 {
         put_four(buf, at, b'l', b'e', b'f', b't');
@@ -170,6 +175,7 @@ fn write_left_in_room(buf: &mut [u8], at: usize, n: u64) -> Written
     write_number_line(buf, at, b"left,", n)
 }
 
+// Writes the line `refused,n` with its LF where twelve bytes fit.
 fn write_row_in_room(buf: &mut [u8], at: usize, n: u64) -> Written
     requires { ⌜ at + 12 ≤ length (now buf) ⌝ }
     ensures { λ r. ⌜ (r, now (buf .exit)) ≡ writtenAt (now (buf .entry)) at (rowText n) ⌝ }
@@ -182,6 +188,7 @@ fn write_row_in_room(buf: &mut [u8], at: usize, n: u64) -> Written
     write_number_line(buf, at, b"refused,", n)
 }
 
+// Writes the line `refused,8,e` with its LF where twelve bytes fit.
 fn write_blocked_in_room(buf: &mut [u8], at: usize, e: u64) -> Written
     requires { ⌜ at + 12 ≤ length (now buf) ⌝ }
     ensures { λ r. ⌜ (r, now (buf .exit)) ≡ writtenAt (now (buf .entry)) at (recordText (bytes "refused") 8 e) ⌝ }
@@ -195,6 +202,7 @@ fn write_blocked_in_room(buf: &mut [u8], at: usize, e: u64) -> Written
     write_record(buf, at, b"refused", 8, e)
 }
 
+// Writes the line of a refusal with its LF where twelve bytes fit.
 fn write_refusal_in_room(buf: &mut [u8], at: usize, refusal: Refusal) -> Written
     requires { ⌜ at + 12 ≤ length (now buf) ⌝ }
     ensures { λ r. ⌜ (r, now (buf .exit)) ≡ writtenAt (now (buf .entry)) at (refusalText refusal) ⌝ }
@@ -205,6 +213,7 @@ fn write_refusal_in_room(buf: &mut [u8], at: usize, refusal: Refusal) -> Written
     write_row_in_room(buf, at, refusal_number(refusal))
 }
 
+// Writes the line of an answer with its LF where twelve bytes fit.
 fn write_answer_in_room(buf: &mut [u8], at: usize, answer: Answer) -> Written
     requires { ⌜ at + 12 ≤ length (now buf) ⌝ }
     ensures { λ r. ⌜ (r, now (buf .exit)) ≡ writtenAt (now (buf .entry)) at (answerText answer) ⌝ }

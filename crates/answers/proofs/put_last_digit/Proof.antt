@@ -1,9 +1,5 @@
 -- `answers::put_last_digit` meets its contract. Assumes nothing.
-use mathlib.Core.Path.{sym, ap, _∙_}
-use mathlib.Core.List.{List, _∷_}
-use Prim.Native.Nat.{ℕ}
-use lib.Seq.{sets}
-use Rattle.answers.proofs.ShortLines.{one-digit}
+use Rattle.answers.proofs.ShortLines.{digit-put}
 use borrow.Author.Needs.{needs}
 use Rattle.answers.proofs.put_last_digit.Statement.{statement}
 use Rattle.answers.proofs.put_last_digit.Tie as tie
@@ -25,8 +21,7 @@ returns c =
     let o = c .before .before in
     let s = o .before .before .before in
     let a = s .args in
-    o .put-three .ensures
-    ∙ ap (λ (t : List ℕ). sets (a .buf .now) (a .at) (44 ∷ t)) (sym (one-digit (a .n) 10 (s .pre .1)))
+    digit-put (a .buf .now) (o .put-three .last .0) (a .at) (a .n) (s .pre .1) (o .put-three .ensures)
 
 pub put-last-digit-spec : {M : Type 1} → statement M
 put-last-digit-spec =
