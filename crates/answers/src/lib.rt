@@ -112,8 +112,8 @@ fn write_any_answer(buf: &mut [u8], at: usize, answer: Answer) -> Written
     }
 }
 
-// ---- Short lines: most answers have one. Where twelve bytes fit, as the longest of them has, they are stored straight,
-// with no test of the room and no digits counted. The compiler makes one store of the bytes of `put_two` to `put_four`.
+// ---- Short lines: most answers have one. Where twelve bytes fit, as the longest has, they are stored straight:
+// no more tests of the room, and no digits counted. The compiler makes one store of the bytes of each `put_`.
 
 // Two bytes, at a place where they fit.
 fn put_two(buf: &mut [u8], at: usize, a: u8, b: u8)
