@@ -2,5 +2,6 @@
 pub mod Examples
 pub mod Laws
 pub mod Parts
+pub mod ShortLines
 pub mod Texts
 pub mod Theorems
