@@ -1,0 +1,41 @@
+-- Laws of bytes that stand at a place of a text: one byte, two stretches side by side, a word. Assumes nothing.
+use Prim.Native.Nat.{ℕ, _+_, _≤_, _<_}
+use mathlib.Core.Path.{_≡_, refl, sym, ap, _∙_}
+use mathlib.Core.List.{List, [], _∷_, _++_}
+use mathlib.Core.Logic.{_⊎_, ⊎-elim}
+use native.Mathlib.Omega.{arith}
+use native.Mathlib.Numerals.{add-one}
+use lib.ListN.{length, getD, take, drop, length-append}
+use lib.Seq.{drop-cons, drop-drop, take-add}
+use Rattle.scanning.specs.declared.quick.Word.{Word}
+use Rattle.scanning.specs.declared.quick.Word.the-variants.{Unknown}
+use Rattle.scanning.specs.Quick.{Stands, wordText, WordIf}
+
+pub one : (s : List ℕ) (at b : ℕ) → at < length s → getD s at 0 ≡ b → Stands s at (b ∷ [])
+one s at b h e = rw (drop-cons s at 0 h) (ap (λ (x : ℕ). x ∷ []) e)
+
+pub join : (s : List ℕ) (at q : ℕ) (t u : List ℕ) → q ≡ at + length t → Stands s at t → Stands s q u
+    → Stands s at (t ++ u)
+join s at q t u e h k =
+    let d : drop (length t) (drop at s) ≡ drop q s = drop-drop (length t) at s ∙ ap (λ (i : ℕ). drop i s) (sym e) in
+    rw (length-append t u, take-add (length t) (length u) (drop at s), d, h, k)
+
+-- one byte more in front
+pub behind : (s : List ℕ) (at q b : ℕ) (u : List ℕ) → q ≡ at + 1 → at < length s → getD s at 0 ≡ b → Stands s q u
+    → Stands s at (b ∷ u)
+behind s at q b u e h g k = join s at q (b ∷ []) u e (one s at b h g) k
+
+pub three-stand : (s : List ℕ) (at a b c : ℕ) → at + 3 ≤ length s → getD s at 0 ≡ a → getD s (at + 1) 0 ≡ b
+    → getD s (at + 2) 0 ≡ c → Stands s at (a ∷ b ∷ c ∷ [])
+three-stand s at a b c h ea eb ec =
+    let l : at < length s = omega arith in
+    let m : at + 1 < length s = omega arith in
+    let n : at + 2 < length s = omega arith in
+    let p : at + 2 ≡ at + 1 + 1 = omega arith in
+    behind s at (at + 1) a (b ∷ c ∷ []) refl l ea
+    (behind s (at + 1) (at + 2) b (c ∷ []) p m eb (one s (at + 2) c n ec))
+
+-- the word that is read, where the text of w follows from the bytes that were asked for
+pub word-stands : (s : List ℕ) (at q : ℕ) (t : List ℕ) (w r : Word) → WordIf s q t w r
+    → (Stands s q t → Stands s at (wordText w)) → Stands s at (wordText r)
+word-stands s at q t w r k f = ⊎-elim (λ e. rw e refl) (λ e. rw (e .0) (f (e .1))) k
