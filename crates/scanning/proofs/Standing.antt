@@ -1,18 +1,25 @@
--- Laws of bytes that stand at a place of a text: one byte, two stretches side by side, a word. Assumes nothing.
+-- Laws of bytes that stand at a place of a text: one byte, and two stretches side by side. Assumes nothing.
 use Prim.Native.Nat.{ℕ, _+_, _≤_, _<_}
 use mathlib.Core.Path.{_≡_, refl, sym, ap, _∙_}
 use mathlib.Core.List.{List, [], _∷_, _++_}
-use mathlib.Core.Logic.{_⊎_, ⊎-elim}
 use native.Mathlib.Omega.{arith}
-use native.Mathlib.Numerals.{add-one}
+use mathlib.Core.Bool.{Bool, not, false}
+use lib.Dec.{eqb, leb}
 use lib.ListN.{length, getD, take, drop, length-append}
 use lib.Seq.{drop-cons, drop-drop, take-add}
-use Rattle.scanning.specs.declared.quick.Word.{Word}
-use Rattle.scanning.specs.declared.quick.Word.the-variants.{Unknown}
-use Rattle.scanning.specs.Quick.{Stands, wordText, WordIf}
+use borrow.Author.Tests.{eqb-true, leb-true, not-false}
+use Rattle.scanning.specs.Quick.{Stands}
 
 pub one : (s : List ℕ) (at b : ℕ) → at < length s → getD s at 0 ≡ b → Stands s at (b ∷ [])
 one s at b h e = rw (drop-cons s at 0 h) (ap (λ (x : ℕ). x ∷ []) e)
+
+-- the test for a byte, turned round
+pub is-byte : (a b : ℕ) → not (eqb a b) ≡ false → a ≡ b
+is-byte a b e = eqb-true a b (not-false (eqb a b) e)
+
+-- the test for room, turned round
+pub has-room : (t : Bool) (a b : ℕ) → t ≡ leb a b → not t ≡ false → a ≤ b
+has-room t a b e f = leb-true a b (sym e ∙ not-false t f)
 
 pub join : (s : List ℕ) (at q : ℕ) (t u : List ℕ) → q ≡ at + length t → Stands s at t → Stands s q u
     → Stands s at (t ++ u)
@@ -34,8 +41,3 @@ three-stand s at a b c h ea eb ec =
     let p : at + 2 ≡ at + 1 + 1 = omega arith in
     behind s at (at + 1) a (b ∷ c ∷ []) refl l ea
     (behind s (at + 1) (at + 2) b (c ∷ []) p m eb (one s (at + 2) c n ec))
-
--- the word that is read, where the text of w follows from the bytes that were asked for
-pub word-stands : (s : List ℕ) (at q : ℕ) (t : List ℕ) (w r : Word) → WordIf s q t w r
-    → (Stands s q t → Stands s at (wordText w)) → Stands s at (wordText r)
-word-stands s at q t w r k f = ⊎-elim (λ e. rw e refl) (λ e. rw (e .0) (f (e .1))) k

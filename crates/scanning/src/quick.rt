@@ -77,9 +77,15 @@ fn short_number(text: &[u8], at: usize, most: usize) -> Short
         i += 1;
     }
     if 1 < i && text[at] == 48 {
-        return Short { value: 0, digits: 0 };
+        return Short {
+            value: 0,
+            digits: 0,
+        };
     }
-    Short { value: n, digits: i }
+    Short {
+        value: n,
+        digits: i,
+    }
 }
 
 // Whether these three bytes stand at a place.
@@ -252,8 +258,15 @@ fn quick_cue(text: &[u8], at: usize, word: Word, e: u64) -> Quick
     if pin.digits == 0 || text[end] != LF {
         return Quick::Unsure;
     }
-    let cue = CueNumbers { time: time.value, module: module.value, pin: pin.value };
-    Quick::Found(Scanned { step: cue_step(word, e, cue), end: end })
+    let cue = CueNumbers {
+        time: time.value,
+        module: module.value,
+        pin: pin.value,
+    };
+    Quick::Found(Scanned {
+        step: cue_step(word, e, cue),
+        end: end,
+    })
 }
 
 // What stands behind a word's comma.
@@ -267,7 +280,10 @@ fn quick_rest(text: &[u8], at: usize, word: Word) -> Quick
     }
     if is_number_word(word) {
         if text[at + 1] == LF {
-            return Quick::Found(Scanned { step: number_step(word, e), end: at + 1 });
+            return Quick::Found(Scanned {
+                step: number_step(word, e),
+                end: at + 1,
+            });
         }
         return Quick::Unsure;
     }

@@ -1,33 +1,37 @@
+-- `scanning::quick::comma_word_if` meets its contract. Assumes nothing.
+use mathlib.Core.Path.{refl}
+use mathlib.Core.List.{[], _∷_}
+use Prim.Native.Nat.{_+_, _<_}
+use lib.ListN.{length}
+use mathlib.Core.Logic.{inl, inr}
+use native.Mathlib.Omega.{arith}
+use Rattle.scanning.proofs.Standing.{one, join}
 use borrow.Author.Needs.{needs}
 use Rattle.scanning.proofs.quick.comma_word_if.Statement.{statement}
 use Rattle.scanning.proofs.quick.comma_word_if.Tie as tie
-use Rattle.scanning.proofs.quick.comma_word_if.Reads as reads
-use Rattle.scanning.proofs.quick.comma_word_if.Lts as lts
-use Rattle.scanning.proofs.quick.three.Reads as three-reads
 
--- src/quick.rt:115:8
 three-requires : tie.Need-three-requires
 three-requires c κs = search needs
 
--- src/quick.rt:116:17
 add-if2 : tie.Need-add-if2
 add-if2 c = search needs
 
--- src/quick.rt:116:12
 shared-slice-read-if2 : tie.Need-shared-slice-read-if2
 shared-slice-read-if2 c = search needs
 
--- src/quick.rt:117:13
 returns : tie.Need-returns
-returns c = ?
+returns c =
+    let i = c .before .before in
+    let a = i .before .before .before .args in
+    let h : a .at + 3 < length (a .text .now) = omega arith in
+    let b = one (a .text .now) (a .at + 3) 44 h (c .if2 .taken) in
+    inr (refl, join (a .text .now) (a .at) (a .at + 3) (a .a ∷ a .b ∷ a .c ∷ []) (44 ∷ []) refl (i .before .three .ensures (i .if1 .taken)) b)
 
--- src/quick.rt:111:1
 returns-2 : tie.Need-returns-2
-returns-2 c = ?
+returns-2 c = inl refl
 
--- src/quick.rt:111:1
 returns-3 : tie.Need-returns-3
-returns-3 c = ?
+returns-3 c = inl refl
 
 pub comma-word-if-spec : {M : Type 1} → statement M
 comma-word-if-spec =

@@ -1,96 +1,78 @@
+-- `scanning::quick::number_step` meets its contract. Assumes nothing.
+use mathlib.Core.Path.{refl}
+use mathlib.Core.Bool.{true}
+use native.Mathlib.Omega.{arith}
+use Rattle.scanning.specs.declared.quick.Word.the-variants.{Add, Back, Begin, Commit, Has, Min, Push, Remove, Take, Undo, Unknown}
+use Rattle.scanning.proofs.Words.{line-of, other-kind}
 use borrow.Author.Needs.{needs}
 use Rattle.scanning.proofs.quick.number_step.Statement.{statement}
 use Rattle.scanning.proofs.quick.number_step.Tie as tie
-use Rattle.scanning.proofs.quick.number_step.Reads as reads
-use Rattle.scanning.proofs.quick.number_step.Lts as lts
 
--- src/quick.rt:200:22
 enum-told : tie.Need-enum-told
 enum-told c = search needs
 
--- src/quick.rt:201:23
 enum-told-2 : tie.Need-enum-told-2
 enum-told-2 c = search needs
 
--- src/quick.rt:202:24
 enum-told-3 : tie.Need-enum-told-3
 enum-told-3 c = search needs
 
--- src/quick.rt:203:25
 enum-told-4 : tie.Need-enum-told-4
 enum-told-4 c = search needs
 
--- src/quick.rt:204:22
 enum-told-5 : tie.Need-enum-told-5
 enum-told-5 c = search needs
 
--- src/quick.rt:205:22
 enum-told-6 : tie.Need-enum-told-6
 enum-told-6 c = search needs
 
--- src/quick.rt:206:23
 enum-told-7 : tie.Need-enum-told-7
 enum-told-7 c = search needs
 
--- src/quick.rt:207:25
 enum-told-8 : tie.Need-enum-told-8
 enum-told-8 c = search needs
 
--- src/quick.rt:208:23
 enum-told-9 : tie.Need-enum-told-9
 enum-told-9 c = search needs
 
--- src/quick.rt:209:23
 enum-told-10 : tie.Need-enum-told-10
 enum-told-10 c = search needs
 
--- src/quick.rt:210:26
 enum-told-11 : tie.Need-enum-told-11
 enum-told-11 c = search needs
 
--- src/quick.rt:195:1
 returns : tie.Need-returns
-returns c = ?
+returns c = other-kind _ Add true (c .enum-told .given .1) (c .before .before .pre .0) refl
 
--- src/quick.rt:195:1
 returns-2 : tie.Need-returns-2
-returns-2 c = ?
+returns-2 c = line-of _ Back _ _ (c .enum-told2 .given .1) (record { text = refl; nine = omega arith })
 
--- src/quick.rt:195:1
 returns-3 : tie.Need-returns-3
-returns-3 c = ?
+returns-3 c = line-of _ Begin _ _ (c .enum-told3 .given .1) (record { text = refl; nine = omega arith })
 
--- src/quick.rt:195:1
 returns-4 : tie.Need-returns-4
-returns-4 c = ?
+returns-4 c = line-of _ Commit _ _ (c .enum-told4 .given .1) (record { text = refl; nine = omega arith })
 
--- src/quick.rt:195:1
 returns-5 : tie.Need-returns-5
-returns-5 c = ?
+returns-5 c = other-kind _ Has true (c .enum-told5 .given .1) (c .before .before .pre .0) refl
 
--- src/quick.rt:195:1
 returns-6 : tie.Need-returns-6
-returns-6 c = ?
+returns-6 c = line-of _ Min _ _ (c .enum-told6 .given .1) (record { text = refl; nine = omega arith })
 
--- src/quick.rt:195:1
 returns-7 : tie.Need-returns-7
-returns-7 c = ?
+returns-7 c = other-kind _ Push true (c .enum-told7 .given .1) (c .before .before .pre .0) refl
 
--- src/quick.rt:195:1
 returns-8 : tie.Need-returns-8
-returns-8 c = ?
+returns-8 c = other-kind _ Remove true (c .enum-told8 .given .1) (c .before .before .pre .0) refl
 
--- src/quick.rt:195:1
 returns-9 : tie.Need-returns-9
-returns-9 c = ?
+returns-9 c = line-of _ Take _ _ (c .enum-told9 .given .1) (record { text = refl; nine = omega arith })
 
--- src/quick.rt:195:1
 returns-10 : tie.Need-returns-10
-returns-10 c = ?
+returns-10 c = line-of _ Undo _ _ (c .enum-told10 .given .1) (record { text = refl; nine = omega arith })
 
--- src/quick.rt:195:1
 returns-11 : tie.Need-returns-11
-returns-11 c = ?
+returns-11 c = other-kind _ Unknown true (c .enum-told11 .given .1) (c .before .before .pre .0) refl
 
 pub number-step-spec : {M : Type 1} → statement M
 number-step-spec =

@@ -1,40 +1,39 @@
+-- `scanning::quick::three` meets its contract. Assumes nothing.
+use mathlib.Core.Path.{_≡_}
+use Prim.Native.Nat.{ℕ}
+use native.Mathlib.Omega.{arith}
+use borrow.Author.Tests.{eqb-true}
+use Rattle.scanning.proofs.Standing.{three-stand}
 use borrow.Author.Needs.{needs}
 use Rattle.scanning.proofs.quick.three.Statement.{statement}
 use Rattle.scanning.proofs.quick.three.Tie as tie
-use Rattle.scanning.proofs.quick.three.Reads as reads
-use Rattle.scanning.proofs.quick.three.Lts as lts
 
--- src/quick.rt:90:8
 shared-slice-read-if1 : tie.Need-shared-slice-read-if1
 shared-slice-read-if1 c = search needs
 
--- src/quick.rt:91:9
 returns : tie.Need-returns
-returns c = ?
+returns c = λ e. let z : _≡_ {A = ℕ} 0 1 = cc in absurd (omega arith)
 
--- src/quick.rt:93:13
 add-if2 : tie.Need-add-if2
 add-if2 c = search needs
 
--- src/quick.rt:93:8
 shared-slice-read-if2 : tie.Need-shared-slice-read-if2
 shared-slice-read-if2 c = search needs
 
--- src/quick.rt:94:9
 returns-2 : tie.Need-returns-2
-returns-2 c = ?
+returns-2 c = λ e. let z : _≡_ {A = ℕ} 0 1 = cc in absurd (omega arith)
 
--- src/quick.rt:96:10
 add-result : tie.Need-add-result
 add-result c = search needs
 
--- src/quick.rt:96:5
 shared-slice-read-result : tie.Need-shared-slice-read-result
 shared-slice-read-result c = search needs
 
--- src/quick.rt:86:1
 returns-3 : tie.Need-returns-3
-returns-3 c = ?
+returns-3 c =
+    let i = c .before in
+    let a = i .before .before .before .before .args in
+    λ e. three-stand (a .text .now) (a .at) _ _ _ (omega arith) (i .before .before .if1 .left) (i .if2 .left) (eqb-true _ _ e)
 
 pub three-spec : {M : Type 1} → statement M
 three-spec =

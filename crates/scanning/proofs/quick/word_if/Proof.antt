@@ -1,21 +1,18 @@
+-- `scanning::quick::word_if` meets its contract. Assumes nothing.
+use mathlib.Core.Path.{refl}
+use mathlib.Core.Logic.{inl, inr}
 use borrow.Author.Needs.{needs}
 use Rattle.scanning.proofs.quick.word_if.Statement.{statement}
 use Rattle.scanning.proofs.quick.word_if.Tie as tie
-use Rattle.scanning.proofs.quick.word_if.Reads as reads
-use Rattle.scanning.proofs.quick.word_if.Lts as lts
-use Rattle.scanning.proofs.quick.three.Reads as three-reads
 
--- src/quick.rt:104:8
 three-requires : tie.Need-three-requires
 three-requires c κs = search needs
 
--- src/quick.rt:105:9
 returns : tie.Need-returns
-returns c = ?
+returns c = inr (refl, c .before .three .ensures (c .if1 .taken))
 
--- src/quick.rt:100:1
 returns-2 : tie.Need-returns-2
-returns-2 c = ?
+returns-2 c = inl refl
 
 pub word-if-spec : {M : Type 1} → statement M
 word-if-spec = tie.close (tie.spec three-requires returns returns-2)
