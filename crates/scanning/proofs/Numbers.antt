@@ -1,19 +1,19 @@
 -- Laws of a short number: the digits that the loop has passed, and the digits that stand there. Assumes nothing.
 use Prim.Native.Nat.{ℕ, suc, _+_, _*_, _-_, _^_, _≤_, _<_}
 use mathlib.Core.Path.{_≡_, refl, sym, ap, _∙_}
-use mathlib.Core.List.{List, [], _∷_, _++_}
+use mathlib.Core.List.{List, [], _∷_}
 use native.Mathlib.Omega.{arith}
 use lib.ListN.{length, getD, take, drop, length-drop, length-append}
 use lib.Seq.{drop-cons, getD-drop, getD-take, length-take-le}
 use Rattle.numbers.specs.declared.Number.the-variants.{Value}
 use Rattle.numbers.specs.Digits.{digitsOf}
-use Rattle.numbers.specs.Number.{valueFrom, numberOf}
+use Rattle.numbers.specs.Number.{valueFrom}
 use Rattle.numbers.proofs.Laws.{ten-more, value-more, value-end, number-good, digits-small}
 use Rattle.numbers.proofs.Theorems.{read-is-canonical}
 use Rattle.records.specs.Record.{fieldText}
 use Rattle.scanning.specs.declared.quick.Short.{Short}
 use Rattle.scanning.specs.Quick.{Stands, ShortFits}
-use Rattle.scanning.proofs.Standing.{one, join}
+use Rattle.scanning.proofs.Standing.{one, join, byte-before}
 
 -- ---- the digits passed
 -- i digits with the value n: what stands behind them is read on as what stands from the place on is read
@@ -108,4 +108,4 @@ pub digit-field-stands : (s : List ℕ) (at e b : ℕ) → e < 10 → at + 1 < l
 digit-field-stands s at e b h l g k =
     let m : at < length s = omega arith in
     rw (digits-small 19 e h)
-    (join s at (at + 1) ((48 + e) ∷ []) (b ∷ []) refl (one s at (48 + e) m g) (one s (at + 1) b l k), refl)
+    (byte-before s at (at + 1) (48 + e) (b ∷ []) refl m g (one s (at + 1) b l k), refl)

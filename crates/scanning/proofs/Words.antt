@@ -10,10 +10,10 @@ use Rattle.steps.specs.declared.reading.Step.{Step}
 use Rattle.scanning.specs.declared.quick.Word.{Word}
 use Rattle.scanning.specs.declared.quick.Word.the-variants.{Unknown}
 use Rattle.scanning.specs.Quick.{Stands, wordText, isNumberWord, WordIf, LineOf}
-use Rattle.scanning.proofs.Standing.{one, join}
+use Rattle.scanning.proofs.Standing.{one, join, byte-before}
 
 -- ---- a word that was read: its first bytes stand, and the others were asked for
-pub behind : (s : List ℕ) (at q : ℕ) (p t : List ℕ) (w r : Word) → p ++ t ≡ wordText w → q ≡ at + length p
+behind : (s : List ℕ) (at q : ℕ) (p t : List ℕ) (w r : Word) → p ++ t ≡ wordText w → q ≡ at + length p
     → Stands s at p → WordIf s q t w r → Stands s at (wordText r)
 behind s at q p t w r x e h k =
     ⊎-elim (λ u. rw u refl) (λ u. rw (u .0, ← x) (join s at q p t e h (u .1))) k
@@ -27,15 +27,13 @@ pub behind-two : (s : List ℕ) (at a b : ℕ) (t : List ℕ) (w r : Word) → a
 behind-two s at a b t w r x h ea eb k =
     let l : at < length s = omega arith in
     behind s at (at + 2) (a ∷ b ∷ []) t w r x refl
-    (join s at (at + 1) (a ∷ []) (b ∷ []) refl (one s at a l ea) (one s (at + 1) b h eb))
+    (byte-before s at (at + 1) a (b ∷ []) refl l ea (one s (at + 1) b h eb))
     k
 
 pub behind-four : (s : List ℕ) (at a : ℕ) (u t : List ℕ) (w r : Word) → a ∷ u ++ t ≡ wordText w → length u ≡ 3
     → at < length s → getD s at 0 ≡ a → Stands s (at + 1) u → WordIf s (at + 4) t w r → Stands s at (wordText r)
 behind-four s at a u t w r x n h ea su k =
-    behind s at (at + 4) (a ∷ u) t w r x (omega arith)
-    (join s at (at + 1) (a ∷ []) u refl (one s at a h ea) su)
-    k
+    behind s at (at + 4) (a ∷ u) t w r x (omega arith) (byte-before s at (at + 1) a u refl h ea su) k
 
 -- ---- the step of a word, by what a `match` told of the word
 pub line-of : (w k : Word) (u : List ℕ) (x : Step) → w ≡ k → LineOf (wordText k ++ u) x → LineOf (wordText w ++ u) x

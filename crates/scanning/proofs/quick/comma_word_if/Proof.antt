@@ -23,9 +23,11 @@ returns : tie.Need-returns
 returns c =
     let i = c .before .before in
     let a = i .before .before .before .args in
-    let h : a .at + 3 < length (a .text .now) = omega arith in
-    let b = one (a .text .now) (a .at + 3) 44 h (c .if2 .taken) in
-    inr (refl, join (a .text .now) (a .at) (a .at + 3) (a .a ∷ a .b ∷ a .c ∷ []) (44 ∷ []) refl (i .before .three .ensures (i .if1 .taken)) b)
+    let s = a .text .now in
+    let h : a .at + 3 < length s = omega arith in
+    let three = i .before .three .ensures (i .if1 .taken) in
+    let comma = one s (a .at + 3) 44 h (c .if2 .taken) in
+    inr (refl, join s (a .at) (a .at + 3) (a .a ∷ a .b ∷ a .c ∷ []) (44 ∷ []) refl three comma)
 
 returns-2 : tie.Need-returns-2
 returns-2 c = inl refl

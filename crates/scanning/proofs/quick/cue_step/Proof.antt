@@ -1,7 +1,8 @@
 -- `scanning::quick::cue_step` meets its contract. Assumes nothing.
 use mathlib.Core.Path.{refl}
 use mathlib.Core.Bool.{false}
-use Rattle.scanning.specs.declared.quick.Word.the-variants.{Add, Back, Begin, Commit, Has, Min, Push, Remove, Take, Undo, Unknown}
+use Rattle.scanning.specs.declared.quick.Word.the-variants.{Add, Back, Begin, Commit, Has}
+use Rattle.scanning.specs.declared.quick.Word.the-variants.{Min, Push, Remove, Take, Undo}
 use Rattle.scanning.proofs.Words.{line-of, other-kind, no-word}
 use borrow.Author.Needs.{needs}
 use Rattle.scanning.proofs.quick.cue_step.Statement.{statement}

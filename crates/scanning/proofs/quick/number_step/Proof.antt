@@ -2,7 +2,8 @@
 use mathlib.Core.Path.{refl}
 use mathlib.Core.Bool.{true}
 use native.Mathlib.Omega.{arith}
-use Rattle.scanning.specs.declared.quick.Word.the-variants.{Add, Back, Begin, Commit, Has, Min, Push, Remove, Take, Undo, Unknown}
+use Rattle.scanning.specs.declared.quick.Word.the-variants.{Add, Back, Begin, Commit, Has}
+use Rattle.scanning.specs.declared.quick.Word.the-variants.{Min, Push, Remove, Take, Undo, Unknown}
 use Rattle.scanning.proofs.Words.{line-of, other-kind}
 use borrow.Author.Needs.{needs}
 use Rattle.scanning.proofs.quick.number_step.Statement.{statement}

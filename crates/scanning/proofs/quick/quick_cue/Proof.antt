@@ -1,4 +1,5 @@
--- `scanning::quick::quick_cue` meets its contract: from the LF back, each field stands before the next. Assumes nothing.
+-- `scanning::quick::quick_cue` meets its contract: from the LF back, each field stands before the next.
+-- Assumes nothing.
 use Prim.Native.Nat.{_+_}
 use native.Mathlib.Omega.{arith}
 use mathlib.Core.List.{_++_}

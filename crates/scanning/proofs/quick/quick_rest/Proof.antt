@@ -1,5 +1,4 @@
 -- `scanning::quick::quick_rest` meets its contract. Assumes nothing.
-use mathlib.Core.Path.{sym}
 use Prim.Native.Nat.{_+_, _<_}
 use native.Mathlib.Omega.{arith}
 use mathlib.Core.List.{_++_}
@@ -72,7 +71,9 @@ returns-4 c =
     let e = g .digit-at .result in
     let h : a .at + 1 < length s = omega arith in
     let d = digit-field-stands s (a .at) e 44 (omega arith) h (g .digit-at .ensures (l .if1 .left)) (f .if4 .taken) in
-    rest-earlier (wordText (a .word)) (fieldText e 44) s (a .at) (a .at + 2) (c .quick-cue .result) (omega (arith, d .1)) (d .0)
+    rest-earlier (wordText (a .word)) (fieldText e 44) s (a .at) (a .at + 2) (c .quick-cue .result)
+    (omega (arith, d .1))
+    (d .0)
     (c .quick-cue .ensures)
 
 returns-5 : tie.Need-returns-5

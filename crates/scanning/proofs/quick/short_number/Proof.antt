@@ -1,5 +1,6 @@
--- `scanning::quick::short_number` meets its contract. The invariant: the digits passed have the value n. Assumes nothing.
-use Prim.Native.Nat.{_^_, _-_, _≤_, _<_}
+-- `scanning::quick::short_number` meets its contract. The invariant: the digits passed have the value n.
+-- Assumes nothing.
+use Prim.Native.Nat.{_^_, _-_, _≤_}
 use native.Mathlib.Omega.{arith}
 use mathlib.Core.Logic.{⊎-elim}
 use borrow.Author.Tests.{eqb-false}
@@ -54,7 +55,9 @@ shared-slice-read-if3 : tie.Need-shared-slice-read-if3 Inv-loop μ-loop
 shared-slice-read-if3 c = search needs
 
 returns : tie.Need-returns Inv-loop μ-loop
-returns c = let a = c .before .before .before .before .before .before .args in no-digits (a .text .now) (a .at) (a .most)
+returns c =
+    let a = c .before .before .before .before .before .before .args in
+    no-digits (a .text .now) (a .at) (a .most)
 
 returns-2 : tie.Need-returns-2 Inv-loop μ-loop
 returns-2 c =

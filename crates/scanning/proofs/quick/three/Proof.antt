@@ -33,7 +33,8 @@ returns-3 : tie.Need-returns-3
 returns-3 c =
     let i = c .before in
     let a = i .before .before .before .before .args in
-    λ e. three-stand (a .text .now) (a .at) _ _ _ (omega arith) (i .before .before .if1 .left) (i .if2 .left) (eqb-true _ _ e)
+    λ e. three-stand (a .text .now) (a .at) _ _ _ (omega arith) (i .before .before .if1 .left) (i .if2 .left)
+    (eqb-true _ _ e)
 
 pub three-spec : {M : Type 1} → statement M
 three-spec =

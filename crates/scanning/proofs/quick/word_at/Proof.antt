@@ -1,7 +1,9 @@
--- `scanning::quick::word_at` meets its contract: the first byte, or two, leave one word to compare with. Assumes nothing.
+-- `scanning::quick::word_at` meets its contract: the first byte, or two, leave one word to compare with.
+-- Assumes nothing.
 use mathlib.Core.Path.{refl}
 use native.Mathlib.Omega.{arith}
-use Rattle.scanning.specs.declared.quick.Word.the-variants.{Add, Back, Begin, Commit, Has, Min, Push, Remove, Take, Undo}
+use Rattle.scanning.specs.declared.quick.Word.the-variants.{Add, Back, Begin, Commit, Has}
+use Rattle.scanning.specs.declared.quick.Word.the-variants.{Min, Push, Remove, Take, Undo}
 use Rattle.scanning.proofs.Words.{behind-one, behind-two, behind-four}
 use borrow.Author.Needs.{needs}
 use Rattle.scanning.proofs.quick.word_at.Statement.{statement}
