@@ -1,7 +1,14 @@
 // Steps of a step list, read where they stand: the step of the line that starts at a place of a text, and where that
-// line ends. No public function has a `requires`.
+// line ends.
+//
+// Most lines have a plain form, which `quick` reads in one pass, without looking for their end first. Any other line is
+// found first and then read. No public function has a `requires`.
+mod quick;
+
 ghost use Rattle.scanning.specs.Scan.{Scans};
 use lines::find_byte;
+use quick::Quick;
+use quick::quick_step;
 use steps::Step;
 use steps::read_step;
 
@@ -34,5 +41,8 @@ fn scan_line(text: &[u8], at: usize) -> Scanned
 pub fn scan_step(text: &[u8], at: usize) -> Scanned
     ensures { λ r. ⌜ Scans (now (text .entry)) at r ⌝ }
 {
-    scan_line(text, at)
+    match quick_step(text, at) {
+        Quick::Found(scanned) => scanned,
+        Quick::Unsure => scan_line(text, at),
+    }
 }
