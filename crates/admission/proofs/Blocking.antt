@@ -1,6 +1,6 @@
 -- The search for the blocker, transaction by transaction. Assumes nothing.
-use Prim.Native.Nat.{ℕ, zero, suc, _+_, _≤_, _<_}
-use mathlib.Core.Path.{_≡_, _∙_}
+use Prim.Native.Nat.{ℕ, zero, suc, _+_, _-_, _≤_, _<_}
+use mathlib.Core.Path.{_≡_, refl, sym, ap, _∙_}
 use mathlib.Core.Bool.{Bool, true, false, cond}
 use mathlib.Core.List.{List, [], _∷_, map}
 use mathlib.Core.Option.{Option, none, some}
@@ -59,6 +59,18 @@ module _ (ts : List (List ℕ)) (e : ℕ) (l : Lock) (i : ℕ) where
   pub conflict : i < length ts → (i + 1 ≡ e → ⊥) → conflicts l (transactionOf (getD ts i []) .locks) ≡ true
       → from i ≡ some (i + 1)
   conflict h q c = step h ∙ rw (ne-eqb (i + 1) e q, c)
+
+  -- whoever is there, without a conflict it is passed over
+  pub passed : i < length ts → conflicts l (transactionOf (getD ts i []) .locks) ≡ false → from i ≡ from (i + 1)
+  passed h c = step h ∙ rw c (either (eqb (i + 1) e))
+    where
+      either : (b : Bool) → cond b (from (i + 1)) (from (i + 1)) ≡ from (i + 1)
+      either true = refl
+      either false = refl
+
+  -- one place further back
+  pub back : (x : Option ℕ) → 0 < i → from (i - 1) ≡ from (i - 1 + 1) → x ≡ from i → x ≡ from (i - 1)
+  back x h q p = let e : i - 1 + 1 ≡ i = omega arith in p ∙ sym (q ∙ ap from e)
 
   pub nobody : length ts ≤ i → from i ≡ none
   unfolding blocker

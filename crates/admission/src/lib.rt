@@ -18,7 +18,7 @@ ghost use mathlib.Core.List.{[], _∷_, map};
 ghost use mathlib.Core.Option.{some};
 ghost use Prim.Native.Nat.{_+_, _<_, _≤_};
 ghost use lib.Dec.{leb};
-ghost use lib.ListN.{length, take};
+ghost use lib.ListN.{length, take, drop};
 ghost use Rattle.tables.specs.Table.{Ordered, memberOf};
 ghost use Rattle.boosting.specs.Object.{reply};
 ghost use Rattle.boosting.specs.Undo.{added, entryOf};
@@ -61,12 +61,32 @@ pub enum Blocker {
     Nobody,
 }
 
+// The first transaction other than e whose sieve lets the key pass, counted from 0; 8 where there is none. Which one that
+// is cannot be guessed, so all are looked at, and nothing branches on what is found.
+fn first_candidate(ts: &[[u64; 64]; 8], e: usize, key: u64) -> usize
+    requires { ⌜ TransactionsFit (now ts) ⌝ }
+    ensures { λ r. ⌜ (blocker e (cueLock key) (r + 1) (drop r (map transactionOf (now (ts .entry))))
+        ≡ blocker e (cueLock key) 1 (map transactionOf (now (ts .entry)))) × (r ≤ 8) ⌝ }
+{
+    let mut first = 8;
+    let mut i = 8;
+    while 0 < i {
+        i -= 1;
+        if transactions::may_hold(&ts[i], key) {
+            if i + 1 != e {
+                first = i;
+            }
+        }
+    }
+    first
+}
+
 // The first transaction other than e that holds a lock on the cue; only those that may hold one are searched.
 fn find_holder(ts: &[[u64; 64]; 8], e: usize, key: u64) -> Blocker
     requires { ⌜ TransactionsFit (now ts) ⌝ }
     ensures { λ r. ⌜ modelBlocker r ≡ blocker e (cueLock key) 1 (map transactionOf (now (ts .entry))) ⌝ }
 {
-    let mut i = 0;
+    let mut i = first_candidate(ts, e, key);
     let found = 'search: loop {
         if 8 <= i {
             break 'search Blocker::Nobody;

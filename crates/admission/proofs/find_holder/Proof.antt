@@ -6,6 +6,7 @@ use mathlib.Core.Bool.{true, false}
 use mathlib.Core.List.{[]}
 use mathlib.Core.Logic.{⊎-elim}
 use native.Mathlib.Omega.{arith}
+use borrow.Author.Needs.{needs}
 use lib.ListN.{length, take, drop, getD}
 use Rattle.tables.specs.Table.{memberOf}
 use Rattle.tables.proofs.Laws.{member-hit, member-miss, member-over}
@@ -36,8 +37,11 @@ Inv-search ts e key i₀ i = (i ≤ 8) × (blockerFrom ts e (cueLock key) i ≡ 
 abbrev μ-search : tie.MeasureT-search
 μ-search ts e key i₀ i = 8 - i
 
+first-candidate-requires : tie.Need-first-candidate-requires Inv-loop μ-loop Inv-search μ-search
+first-candidate-requires c κs = search needs
+
 search-holds : tie.Need-search-holds Inv-loop μ-loop Inv-search μ-search
-search-holds c = (omega arith, refl)
+search-holds c = (c .first-candidate .ensures .1, c .first-candidate .ensures .0)
 
 add-if2 : tie.Need-add-if2 Inv-loop μ-loop Inv-search μ-search
 add-if2 c = omega arith
@@ -50,7 +54,7 @@ index-1-may-hold c = omega arith
 
 may-hold-requires : tie.Need-may-hold-requires Inv-loop μ-loop Inv-search μ-search
 may-hold-requires c κs =
-    let s = c .before .before .before .before in
+    let s = c .before .before .before .before .before in
     fit-at (s .args .ts .now) (s .pre .each) (c .before .before .before .search .i) (omega (arith, s .pre .eight))
 
 mul-n : tie.Need-mul-n Inv-loop μ-loop Inv-search μ-search
@@ -65,7 +69,7 @@ index-2-n c = omega arith
 loop-holds : tie.Need-loop-holds Inv-loop μ-loop Inv-search μ-search
 loop-holds c =
     let o = c .before .before .before .before .before .before in
-    let s = o .before in
+    let s = o .before .before in
     let i = o .search .i in
     let f = fit-at (s .args .ts .now) (s .pre .each) i (omega arith) in
     (f .lock-count-le, f .long, omega arith, omega arith, refl)
@@ -94,7 +98,7 @@ loop-less c = omega arith
 loop-again : tie.Need-loop-again Inv-loop μ-loop Inv-search μ-search
 loop-again c =
     let o = c .before .before .before .before .before .before .before .before .before .before in
-    let s = o .before in
+    let s = o .before .before in
     let i = o .search .i in
     let v = c .before .before .before .loop in
     let w = getD (s .args .ts .now) i [] in
@@ -110,7 +114,7 @@ search-less c = omega arith
 
 search-again : tie.Need-search-again Inv-loop μ-loop Inv-search μ-search
 search-again c =
-    let s = c .before .before .before in
+    let s = c .before .before .before .before in
     let v = c .before .before .search in
     let i = v .i in
     let key = s .args .key in
@@ -133,7 +137,7 @@ search-again c =
 
 returns : tie.Need-returns Inv-loop μ-loop Inv-search μ-search
 returns c =
-    let s = c .before .before in
+    let s = c .before .before .before in
     let v = c .before .search in
     sym (sym (v .inv .1)
     ∙ nobody (s .args .ts .now) (s .args .e) (cueLock (s .args .key)) (v .i) (omega (arith, s .pre .eight)))
@@ -141,7 +145,7 @@ returns c =
 returns-2 : tie.Need-returns-2 Inv-loop μ-loop Inv-search μ-search
 returns-2 c =
     let p = c .before .before .before .before .before .before .before .before in
-    let s = p .before .before .before in
+    let s = p .before .before .before .before in
     let o = p .before .before .search in
     let v = c .before .before .before .loop in
     let key = s .args .key in
@@ -163,6 +167,7 @@ find-holder-spec =
     μ-loop
     Inv-search
     μ-search
+    first-candidate-requires
     search-holds
     add-if2
     mul-may-hold
