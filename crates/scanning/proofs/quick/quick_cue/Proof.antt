@@ -67,15 +67,13 @@ cue-step-requires c κs =
     let n2 = n3 .before .before .before .before .before .before in
     let n1 = n2 .before .before .before .before .before .before in
     let a = n1 .before .before in
-    let s = a .args .text .now in (
+    let s = a .args .text .now in
+    let t = nine-digits s _ 7 _ (n1 .short-number .ensures) (n2 .before .before .before .if1 .left) in
+    let m = nine-digits s _ 2 _ (n2 .short-number2 .ensures) (n3 .before .before .before .if3 .left) in
+    let p = nine-digits s _ 2 _ (n3 .short-number3 .ensures) (c .before .before .if5 .left) in (
       a .pre .1,
       a .pre .2,
-      record {
-        transaction = omega arith;
-        time = nine-digits s _ 7 _ (n1 .short-number .ensures) (n2 .before .before .before .if1 .left);
-        «module» = nine-digits s _ 2 _ (n2 .short-number2 .ensures) (n3 .before .before .before .if3 .left);
-        pin = nine-digits s _ 2 _ (n3 .short-number3 .ensures) (c .before .before .if5 .left);
-      },
+      record { transaction = omega arith; time = omega arith; «module» = omega arith; pin = omega arith },
     )
 
 returns-4 : tie.Need-returns-4

@@ -20,7 +20,7 @@ word-at-requires : tie.Need-word-at-requires
 word-at-requires c κs =
     let f = c .before in
     let a = f .before .before .args in
-    let h = has-room _ (a .at + 32) (length (a .text .now)) (f .fits2 .ensures) (c .if1 .left) in
+    let h = has-room _ _ (length (a .text .now)) (f .fits2 .ensures) (c .if1 .left) in
     omega arith
 
 word-length-requires : tie.Need-word-length-requires
@@ -34,7 +34,7 @@ add-quick-rest c =
     let r = c .before .before .before in
     let f = r .before in
     let a = f .before .before .args in
-    let h = has-room _ (a .at + 32) (length (a .text .now)) (f .fits2 .ensures) (r .if1 .left) in
+    let h = has-room _ _ (length (a .text .now)) (f .fits2 .ensures) (r .if1 .left) in
     omega arith
 
 quick-rest-requires : tie.Need-quick-rest-requires
@@ -43,7 +43,7 @@ quick-rest-requires c κs =
     let r = w .before .before in
     let f = r .before in
     let a = f .before .before .args in
-    let h = has-room _ (a .at + 32) (length (a .text .now)) (f .fits2 .ensures) (r .if1 .left) in
+    let h = has-room _ _ (length (a .text .now)) (f .fits2 .ensures) (r .if1 .left) in
     (omega (arith, w .word-length .ensures .1), omega (arith, w .word-length .ensures .0, c .if2 .left))
 
 returns-3 : tie.Need-returns-3
