@@ -7,10 +7,10 @@ use native.Mathlib.Omega.{arith}
 use lib.ListN.{length, getD, length-append}
 use Rattle.boosting.specs.Listing.{lockLines, modesOf}
 use Rattle.transactions.specs.View.{locksOf}
+use Rattle.store_words.proofs.Places.{fit-at}
 use Rattle.lock_listing.specs.Listed.{transactionText, listingText}
 use Rattle.lock_listing.proofs.Listings.{
   append-length,
-  fit-at,
   listingAfter,
   listing-more,
   listing-over,

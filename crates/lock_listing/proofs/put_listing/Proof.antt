@@ -6,8 +6,9 @@ use Prim.Native.Nat.{_+_, _-_, _≤_}
 use native.Mathlib.Omega.{arith}
 use lib.ListN.{length, getD}
 use lib.Seq.{sets}
+use Rattle.store_words.proofs.Places.{fit-at}
 use Rattle.lock_listing.specs.Listed.{transactionText, listingText}
-use Rattle.lock_listing.proofs.Listings.{fit-at, listingAfter, listing-more, listing-over}
+use Rattle.lock_listing.proofs.Listings.{listingAfter, listing-more, listing-over}
 use Rattle.lock_listing.proofs.Puts.{first-fits, rest-ends, rest-stored}
 use borrow.Author.Needs.{needs}
 use Rattle.lock_listing.proofs.put_listing.Statement.{statement}
