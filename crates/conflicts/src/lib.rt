@@ -1,7 +1,7 @@
 // Conflicts: the transaction that holds a lock in the way of another's, if there is one.
 //
-// The eight records are read where they stand (`store_words`) and nothing is changed. A `requires` asks for what opening
-// and stepping establish of them.
+// The eight records are read where they stand (`store_words`) and nothing is changed. A `requires` asks for what
+// opening and stepping establish of them.
 use transactions::LOCK_COUNT;
 use transactions::Lock;
 ghost use mathlib.Core.Path.{_≡_};

@@ -1,8 +1,8 @@
--- `answers::put_last_digit` meets its contract. Assumes nothing.
-use Rattle.answers.proofs.ShortLines.{digit-put}
+-- `short_answers::put_last_digit` meets its contract. Assumes nothing.
+use Rattle.short_answers.proofs.ShortLines.{digit-put}
 use borrow.Author.Needs.{needs}
-use Rattle.answers.proofs.put_last_digit.Statement.{statement}
-use Rattle.answers.proofs.put_last_digit.Tie as tie
+use Rattle.short_answers.proofs.put_last_digit.Statement.{statement}
+use Rattle.short_answers.proofs.put_last_digit.Tie as tie
 
 add-put-three : tie.Need-add-put-three
 add-put-three c = search needs

@@ -1,9 +1,9 @@
--- `answers::put_refused_word` meets its contract. Assumes nothing.
+-- `short_answers::put_refused_word` meets its contract. Assumes nothing.
 use Rattle.lines.specs.Ascii.{bytes}
-use Rattle.answers.proofs.ShortLines.{put-behind}
+use Rattle.short_answers.proofs.ShortLines.{put-behind}
 use borrow.Author.Needs.{needs}
-use Rattle.answers.proofs.put_refused_word.Statement.{statement}
-use Rattle.answers.proofs.put_refused_word.Tie as tie
+use Rattle.short_answers.proofs.put_refused_word.Statement.{statement}
+use Rattle.short_answers.proofs.put_refused_word.Tie as tie
 
 put-four-requires : tie.Need-put-four-requires
 put-four-requires c κs = search needs

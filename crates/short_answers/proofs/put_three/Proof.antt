@@ -1,11 +1,11 @@
--- `answers::put_three` meets its contract. Assumes nothing.
+-- `short_answers::put_three` meets its contract. Assumes nothing.
 use mathlib.Core.List.{[], _∷_}
 use native.Mathlib.Omega.{arith}
 use lib.ListN.{length-set}
-use Rattle.answers.proofs.ShortLines.{stored}
+use Rattle.short_answers.proofs.ShortLines.{stored}
 use borrow.Author.Needs.{needs}
-use Rattle.answers.proofs.put_three.Statement.{statement}
-use Rattle.answers.proofs.put_three.Tie as tie
+use Rattle.short_answers.proofs.put_three.Statement.{statement}
+use Rattle.short_answers.proofs.put_three.Tie as tie
 
 slice-write-buf : tie.Need-slice-write-buf
 slice-write-buf c = search needs

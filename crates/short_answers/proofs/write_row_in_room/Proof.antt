@@ -1,13 +1,13 @@
--- `answers::write_left_in_room` meets its contract. Assumes nothing.
+-- `short_answers::write_row_in_room` meets its contract. Assumes nothing.
 use native.Mathlib.Omega.{arith}
 use Rattle.lines.specs.Ascii.{bytes}
-use Rattle.answers.proofs.ShortLines.{digit-line}
+use Rattle.short_answers.proofs.ShortLines.{digit-line}
 use borrow.Author.Needs.{needs}
-use Rattle.answers.proofs.write_left_in_room.Statement.{statement}
-use Rattle.answers.proofs.write_left_in_room.Tie as tie
+use Rattle.short_answers.proofs.write_row_in_room.Statement.{statement}
+use Rattle.short_answers.proofs.write_row_in_room.Tie as tie
 
-put-four-requires : tie.Need-put-four-requires
-put-four-requires c κs = search needs
+put-refused-word-requires : tie.Need-put-refused-word-requires
+put-refused-word-requires c κs = search needs
 
 add-put-last-digit : tie.Need-add-put-last-digit
 add-put-last-digit c = search needs
@@ -28,8 +28,8 @@ returns c =
     let t = x .before .before in
     let s = t .before .before in
     let a = s .args in
-    digit-line (a .buf .now) (x .put-four .last .0) (y .put-last-digit .last .0) (bytes "left") (a .at) (a .n) (s .pre)
-    (omega arith) (t .if1 .taken) (x .put-four .ensures) (y .put-last-digit .ensures)
+    digit-line (a .buf .now) (x .put-refused-word .last .0) (y .put-last-digit .last .0) (bytes "refused")
+    (a .at) (a .n) (s .pre) (omega arith) (t .if1 .taken) (x .put-refused-word .ensures) (y .put-last-digit .ensures)
 
 slice-aggregate-write-number-line : tie.Need-slice-aggregate-write-number-line
 slice-aggregate-write-number-line c = search needs
@@ -43,11 +43,11 @@ same-length-2 c = search needs
 returns-2 : tie.Need-returns-2
 returns-2 c = search needs
 
-pub write-left-in-room-spec : {M : Type 1} → statement M
-write-left-in-room-spec =
+pub write-row-in-room-spec : {M : Type 1} → statement M
+write-row-in-room-spec =
     tie.close
     (tie.spec
-    put-four-requires
+    put-refused-word-requires
     add-put-last-digit
     put-last-digit-requires
     add-t11

@@ -1,12 +1,12 @@
--- `answers::write_answer_in_room` meets its contract: each arm writes its answer's text. Assumes nothing.
+-- `short_answers::write_answer_in_room` meets its contract: each arm writes its answer's text. Assumes nothing.
 use native.Mathlib.Omega.{arith}
 use Rattle.lines.specs.Ascii.{bytes}
 use Rattle.answers.specs.declared.Answer.the-variants.{Ok, Yes, No, Empty}
 use Rattle.answers.proofs.Laws.{arm-written}
-use Rattle.answers.proofs.ShortLines.{put-behind, short-line}
+use Rattle.short_answers.proofs.ShortLines.{put-behind, short-line}
 use borrow.Author.Needs.{needs}
-use Rattle.answers.proofs.write_answer_in_room.Statement.{statement}
-use Rattle.answers.proofs.write_answer_in_room.Tie as tie
+use Rattle.short_answers.proofs.write_answer_in_room.Statement.{statement}
+use Rattle.short_answers.proofs.write_answer_in_room.Tie as tie
 
 enum-told : tie.Need-enum-told
 enum-told c = search needs

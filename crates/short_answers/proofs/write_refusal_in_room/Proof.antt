@@ -1,10 +1,10 @@
--- `answers::write_refusal_in_room` meets its contract: 8 prints a third field, every other row none. Assumes nothing.
+-- `short_answers::write_refusal_in_room` meets its contract: 8 prints a third field, every other row none. Assumes nothing.
 use mathlib.Core.Path.{sym, ap, _∙_}
 use Rattle.buffers.specs.Written.{writtenAt}
 use Rattle.answers.proofs.Laws.{blocked-text, row-text}
 use borrow.Author.Needs.{needs}
-use Rattle.answers.proofs.write_refusal_in_room.Statement.{statement}
-use Rattle.answers.proofs.write_refusal_in_room.Tie as tie
+use Rattle.short_answers.proofs.write_refusal_in_room.Statement.{statement}
+use Rattle.short_answers.proofs.write_refusal_in_room.Tie as tie
 
 enum-known-refusal : tie.Need-enum-known-refusal
 enum-known-refusal c = search needs

@@ -1,12 +1,12 @@
--- `answers::write_blocked_in_room` meets its contract. Assumes nothing.
+-- `short_answers::write_blocked_in_room` meets its contract. Assumes nothing.
 use mathlib.Core.Path.{sym, ap, _∙_}
 use native.Mathlib.Omega.{arith}
 use Rattle.buffers.specs.Written.{writtenAt}
 use Rattle.lines.specs.Ascii.{bytes}
-use Rattle.answers.proofs.ShortLines.{put-behind, digit-line, blocked-line}
+use Rattle.short_answers.proofs.ShortLines.{put-behind, digit-line, blocked-line}
 use borrow.Author.Needs.{needs}
-use Rattle.answers.proofs.write_blocked_in_room.Statement.{statement}
-use Rattle.answers.proofs.write_blocked_in_room.Tie as tie
+use Rattle.short_answers.proofs.write_blocked_in_room.Statement.{statement}
+use Rattle.short_answers.proofs.write_blocked_in_room.Tie as tie
 
 put-refused-word-requires : tie.Need-put-refused-word-requires
 put-refused-word-requires c κs = search needs
