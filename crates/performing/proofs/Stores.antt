@@ -60,9 +60,6 @@ put-is s q ts (suc i) s′ q′ w x t h a b =
     rw n (map-set ts i w ∙ ap (set (map transactionOf ts) i) b) in
     λ j. record { state = a j; transactions = m j }
 
-pub transactions-fit : (ts : List (List ℕ)) (i : ℕ) → TransactionsFit ts → i < 8 → WordsFit (getD ts i [])
-transactions-fit ts i f h = fit-at ts (f .each) i (omega (arith, f .eight))
-
 -- ---- what an accepted step finds, and leaves
 module _ (s q : List ℕ) (ts : List (List ℕ)) (e : ℕ) (a : Action) (r : Ready s q ts e a) where
   sound-after : Sound (perform (storeOf s q ts) e a .store)
@@ -87,7 +84,7 @@ module _ (s q : List ℕ) (ts : List (List ℕ)) (e : ℕ) (a : Action) (r : Rea
   state-same = record { is = refl; script = r .fits .script; queue = r .fits .queue }
 
   pub words-fit : 1 ≤ e → e ≤ 8 → WordsFit (getD ts (e - 1) [])
-  words-fit h k = transactions-fit ts (e - 1) (r .fits .transactions) (omega arith)
+  words-fit h k = fit-at ts (r .fits .transactions) (e - 1) (omega arith)
 
   pub performed : (s′ q′ w : List ℕ) (x : State) (t : Transaction) (b b′ : Answer) → 1 ≤ e → StateHolds s′ q′ x
       → Made w t → b ≡ b′ → perform (storeOf s q ts) e a ≡ record { store = put (storeOf s q ts) x e t; answer = b′ }

@@ -10,12 +10,15 @@ use lib.Seq.{drop-cons}
 use Rattle.boosting.specs.Locks.{noLocks}
 use Rattle.boosting.specs.Store.{closedTransaction, transaction}
 use Rattle.transactions.specs.View.{WordsFit, transactionOf}
-use Rattle.store_words.specs.Words.{storeOf, AllFit}
+use Rattle.store_words.specs.Words.{storeOf, AllFit, TransactionsFit}
 
-pub fit-at : (ts : List (List ℕ)) → AllFit ts → (i : ℕ) → i < length ts → WordsFit (getD ts i [])
-fit-at [] h i t = absurd (not-suc-le-zero t)
-fit-at (w ∷ ts) h zero t = h .0
-fit-at (w ∷ ts) h (suc i) t = fit-at ts (h .1) i (le-of-suc-le-suc t)
+one-of : (ts : List (List ℕ)) → AllFit ts → (i : ℕ) → i < length ts → WordsFit (getD ts i [])
+one-of [] f i h = absurd (not-suc-le-zero h)
+one-of (w ∷ ts) f zero h = f .0
+one-of (w ∷ ts) f (suc i) h = one-of ts (f .1) i (le-of-suc-le-suc h)
+
+pub fit-at : (ts : List (List ℕ)) → TransactionsFit ts → (i : ℕ) → i < 8 → WordsFit (getD ts i [])
+fit-at ts f i h = one-of ts (f .each) i (omega (arith, f .eight))
 
 -- the transactions from place i on: one and the others, or none
 pub next : (ts : List (List ℕ)) (i : ℕ) → i < length ts

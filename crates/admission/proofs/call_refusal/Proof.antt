@@ -49,8 +49,7 @@ index-1-locks-full c = search needs
 locks-full-requires : tie.Need-locks-full-requires
 locks-full-requires c κs =
     let s = c .before .before .before .before .before in
-    let f = s .pre .0 .transactions in
-    fit-at (s .args .ts .now) (f .each) (s .args .e - 1) (omega (arith, s .pre .1, s .pre .2, f .eight))
+    fit-at (s .args .ts .now) (s .pre .0 .transactions) (s .args .e - 1) (omega (arith, s .pre .1, s .pre .2))
 
 returns-2 : tie.Need-returns-2
 returns-2 c =

@@ -36,8 +36,7 @@ index-1-entry-count c = search needs
 entry-count-requires : tie.Need-entry-count-requires
 entry-count-requires c κs =
     let s = c .before .before .before .before in
-    let f = s .pre .0 .transactions in
-    fit-at (s .args .ts .now) (f .each) (s .args .e - 1) (omega (arith, s .pre .1, s .pre .2, f .eight))
+    fit-at (s .args .ts .now) (s .pre .0 .transactions) (s .args .e - 1) (omega (arith, s .pre .1, s .pre .2))
 
 returns-2 : tie.Need-returns-2
 returns-2 c =

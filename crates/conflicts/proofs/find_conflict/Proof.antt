@@ -31,7 +31,7 @@ index-1-in-conflict c = omega arith
 in-conflict-requires : tie.Need-in-conflict-requires Inv-loop μ-loop
 in-conflict-requires c κs =
     let s = c .before .before .before .before in
-    fit-at (s .args .ts .now) (s .pre .each) (c .before .before .before .loop .i) (omega (arith, s .pre .eight))
+    fit-at (s .args .ts .now) (s .pre) (c .before .before .before .loop .i) (omega arith)
 
 returns : tie.Need-returns Inv-loop μ-loop
 returns c =

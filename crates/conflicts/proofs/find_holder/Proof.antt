@@ -55,7 +55,7 @@ index-1-may-hold c = omega arith
 may-hold-requires : tie.Need-may-hold-requires Inv-loop μ-loop Inv-search μ-search
 may-hold-requires c κs =
     let s = c .before .before .before .before .before in
-    fit-at (s .args .ts .now) (s .pre .each) (c .before .before .before .search .i) (omega (arith, s .pre .eight))
+    fit-at (s .args .ts .now) (s .pre) (c .before .before .before .search .i) (omega arith)
 
 mul-n : tie.Need-mul-n Inv-loop μ-loop Inv-search μ-search
 mul-n c = omega arith
@@ -71,7 +71,7 @@ loop-holds c =
     let o = c .before .before .before .before .before .before in
     let s = o .before .before in
     let i = o .search .i in
-    let f = fit-at (s .args .ts .now) (s .pre .each) i (omega arith) in
+    let f = fit-at (s .args .ts .now) (s .pre) i (omega arith) in
     (f .lock-count-le, f .long, omega arith, omega arith, refl)
 
 mul-if4 : tie.Need-mul-if4 Inv-loop μ-loop Inv-search μ-search

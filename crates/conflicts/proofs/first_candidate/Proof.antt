@@ -36,7 +36,7 @@ may-hold-requires : tie.Need-may-hold-requires Inv-loop μ-loop
 may-hold-requires c κs =
     let o = c .before .before in
     let s = o .before in
-    fit-at (s .args .ts .now) (s .pre .each) (o .loop .i - 1) (omega (arith, s .pre .eight))
+    fit-at (s .args .ts .now) (s .pre) (o .loop .i - 1) (omega arith)
 
 add-if2 : tie.Need-add-if2 Inv-loop μ-loop
 add-if2 c = omega arith

@@ -42,7 +42,7 @@ put-transaction-requires c κs =
     let ts = s .args .ts .now in
     let l = o .loop in
     let h = s .pre .0 in (
-      fit-at ts (h .each) (l .i) (omega (arith, h .eight)),
+      fit-at ts h (l .i) (omega arith),
       first-fits (l .buf) (transactionText (l .i + 1) (getD ts (l .i) [])) (listingAfter ts (l .i + 1))
           (listingAfter ts (l .i)) (l .end) (listing-more ts (l .i) (omega (arith, h .eight)))
           (omega (arith, l .inv, s .pre .1)),

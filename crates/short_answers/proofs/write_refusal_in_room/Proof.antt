@@ -1,4 +1,5 @@
--- `short_answers::write_refusal_in_room` meets its contract: 8 prints a third field, every other row none. Assumes nothing.
+-- `short_answers::write_refusal_in_room` meets its contract: 8 prints a third field, every other row none. Assumes
+-- nothing.
 use mathlib.Core.Path.{sym, ap, _∙_}
 use Rattle.buffers.specs.Written.{writtenAt}
 use Rattle.answers.proofs.Laws.{blocked-text, row-text}

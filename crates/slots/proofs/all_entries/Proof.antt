@@ -31,7 +31,7 @@ index-1-entry-count c = omega arith
 entry-count-requires : tie.Need-entry-count-requires Inv-loop μ-loop
 entry-count-requires c κs =
     let s = c .before .before .before in
-    fit-at (s .args .ts .now) (s .pre .each) (c .before .before .loop .i) (omega (arith, s .pre .eight))
+    fit-at (s .args .ts .now) (s .pre) (c .before .before .loop .i) (omega arith)
 
 add-entries : tie.Need-add-entries Inv-loop μ-loop
 add-entries c = omega arith

@@ -41,7 +41,7 @@ index-1-take-count c = omega arith
 take-count-requires : tie.Need-take-count-requires Inv-loop μ-loop
 take-count-requires c κs =
     let s = c .before .before .before .before in
-    fit-at (s .args .ts .now) (s .pre .1 .each) (c .before .before .loop .i) (omega (arith, s .pre .1 .eight))
+    fit-at (s .args .ts .now) (s .pre .1) (c .before .before .loop .i) (omega arith)
 
 add-slots : tie.Need-add-slots Inv-loop μ-loop
 add-slots c = omega arith

@@ -52,7 +52,7 @@ reserve-log-requires c κs =
     let v = c .before .before .before .loop in
     let ts = s .args .ts .now in
     let x = scriptIn (s .args .script .now) in (
-      fit-at ts (s .pre .1 .0 .each) (v .i - 1) (omega (arith, s .pre)),
+      fit-at ts (s .pre .1 .0) (v .i - 1) (omega arith),
       omega (arith, v .inv),
       rw (v .inv .3) (in-ordered (drop (v .i) (map transactionOf ts)) x (s .pre .0 .1)),
     )
