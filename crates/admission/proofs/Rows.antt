@@ -1,10 +1,9 @@
 -- The rows, decided one after another. Assumes nothing.
-use Prim.Native.Nat.{ℕ, zero, suc, _-_, _≤_, _<_}
+use Prim.Native.Nat.{ℕ, _-_, _≤_, _<_}
 use mathlib.Core.Path.{_≡_, refl, ap, sym, _∙_}
 use mathlib.Core.Bool.{Bool, true, false, not, _&&_}
-use mathlib.Core.List.{List, [], _∷_, map}
+use mathlib.Core.List.{List, [], _∷_}
 use mathlib.Core.Option.{Option, none, some}
-use native.Mathlib.Nat.{le-of-suc-le-suc, not-suc-le-zero}
 use native.Mathlib.Omega.{arith}
 use borrow.Author.Tests.{le-leb, lt-leb}
 use lib.Dec.{leb}
@@ -33,7 +32,6 @@ use Rattle.boosting.specs.Store.{
   aborting,
   Transaction,
   Store,
-  closedTransaction,
   valid,
   transaction,
   blocker,
@@ -60,22 +58,8 @@ use Rattle.boosting.specs.Rows.{
 }
 use Rattle.transactions.specs.View.{transactionOf}
 use Rattle.store_words.specs.Words.{storeOf}
+use Rattle.store_words.proofs.Places.{transaction-is}
 use Rattle.admission.specs.Answers.{closedRows, abortingRows, openRows, roomRows}
-
-getD-in : (ts : List (List ℕ)) (i : ℕ) → i < length ts
-    → getD (map transactionOf ts) i closedTransaction ≡ transactionOf (getD ts i [])
-getD-in [] i h = absurd (not-suc-le-zero h)
-getD-in (w ∷ ts) zero h = refl
-getD-in (w ∷ ts) (suc i) h = getD-in ts i (le-of-suc-le-suc h)
-
--- transaction number e is shown by the words at e - 1
-pub numbered : (s q : List ℕ) (ts : List (List ℕ)) (e : ℕ) → 1 ≤ e → e ≤ length ts
-    → transaction (storeOf s q ts) e ≡ transactionOf (getD ts (e - 1) [])
-unfolding transaction
-numbered s q ts zero h g = absurd (not-suc-le-zero h)
-numbered s q ts (suc i) h g =
-    let e : suc i - 1 ≡ i = omega arith in
-    rw e (getD-in ts i g)
 
 -- rows 10 to 12 by the entry, the log and the slots
 abbrev roomOf : Option Entry → List Entry → List ℕ → ℕ → Option Refusal
@@ -133,10 +117,9 @@ module _ (s q : List ℕ) (ts : List (List ℕ)) (e : ℕ) (n : Option Entry) wh
   unfolding firstMet
   no-entry h = ap rows (sym h)
 
-  module _ (lo : 1 ≤ e) (hi : e ≤ 8) (l : length ts ≡ 8) (m : ℕ)
-      (is : m ≡ length (transactionOf (getD ts (e - 1) []) .log)) where
+  module _ (lo : 1 ≤ e) (m : ℕ) (is : m ≡ length (transactionOf (getD ts (e - 1) []) .log)) where
     log-length : m ≡ length (transaction d e .log)
-    log-length = is ∙ ap (λ (t : Transaction). length (t .log)) (sym (numbered s q ts e lo (omega arith)))
+    log-length = is ∙ ap (λ (t : Transaction). length (t .log)) (sym (transaction-is s q ts e lo))
 
     pub log-full : (x : Entry) → n ≡ some x → 16 ≤ m → some UndoLogFull ≡ rows n
     log-full x h g =
@@ -282,7 +265,7 @@ valid-high e h =
     rw (le-leb 1 e g, lt-leb e 8 h)
 
 -- the first row by the standing that the words show
-module _ (s q : List ℕ) (ts : List (List ℕ)) (e : ℕ) (a : Action) (lo : 1 ≤ e) (hi : e ≤ 8) (l : length ts ≡ 8) where
+module _ (s q : List ℕ) (ts : List (List ℕ)) (e : ℕ) (a : Action) (lo : 1 ≤ e) (hi : e ≤ 8) where
   abbrev store : Store
   store = storeOf s q ts
 
@@ -292,7 +275,7 @@ module _ (s q : List ℕ) (ts : List (List ℕ)) (e : ℕ) (a : Action) (lo : 1 
   stands : (m : Standing) → Stands m → rowsWith true m store e a ≡ refusalOf store (request e a)
   stands m h =
       by-standing true m store e a (valid-in e lo hi)
-      (ap (λ (t : Transaction). t .standing) (numbered s q ts e lo (omega arith)) ∙ sym h)
+      (ap (λ (t : Transaction). t .standing) (transaction-is s q ts e lo) ∙ sym h)
 
   pub when-closed : Stands closed → {x : Option Refusal} → x ≡ closedRows a → x ≡ refusalOf store (request e a)
   when-closed h p = p ∙ closed-rows store e a ∙ stands closed h

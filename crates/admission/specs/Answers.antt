@@ -1,10 +1,9 @@
 -- What the code's answers stand for in the model, and the parts of the rows that the functions decide one after
 -- another. Assumes nothing.
-use Prim.Native.Nat.{ℕ, _+_}
+use Prim.Native.Nat.{ℕ}
 use mathlib.Core.Bool.{not, cond}
 use mathlib.Core.List.{List, [], _∷_}
 use mathlib.Core.Option.{Option, none, some}
-use lib.ListN.{length}
 use Rattle.refusals.specs.declared.Refusal.{Refusal}
 use Rattle.refusals.specs.declared.Refusal.the-variants.{
   AlreadyBegun,
@@ -17,27 +16,16 @@ use Rattle.refusals.specs.declared.Refusal.the-variants.{
   QueueFull,
 }
 use Rattle.boosting.specs.Undo.{Entry}
-use Rattle.boosting.specs.Store.{Transaction, Store, transaction}
+use Rattle.boosting.specs.Store.{Store, transaction}
 use Rattle.boosting.specs.Room.{reserved, queueSlots, logFull, scriptFull, queueFull}
 use Rattle.boosting.specs.Rows.{Action, isBegin, isRollBack, cueInRange, when, lockRows}
-use Rattle.admission.specs.declared.Blocker.{Blocker}
-use Rattle.admission.specs.declared.Blocker.the-variants.{By, Nobody}
 use Rattle.admission.specs.declared.Admission.{Admission}
 use Rattle.admission.specs.declared.Admission.the-variants.{Accepted, Refused}
-
-abbrev pub modelBlocker : Blocker → Option ℕ
-modelBlocker (By f) = some f
-modelBlocker Nobody = none
 
 -- the refusal, none where the request is accepted
 abbrev pub modelAdmission : Admission → Option Refusal
 modelAdmission Accepted = none
 modelAdmission (Refused r) = some r
-
--- how many entries the logs have
-unfoldable pub entriesIn : List Transaction → ℕ
-entriesIn [] = 0
-entriesIn (t ∷ ts) = length (t .log) + entriesIn ts
 
 -- the rows of a closed and of an aborting transaction
 abbrev pub closedRows : Action → Option Refusal

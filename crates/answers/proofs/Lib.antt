@@ -2,6 +2,5 @@
 pub mod Examples
 pub mod Laws
 pub mod Parts
-pub mod ShortLines
 pub mod Texts
 pub mod Theorems

@@ -29,7 +29,7 @@ use Rattle.answers.specs.declared.Answer.the-variants.{Ok, Yes, No, Empt
 abbrev pub rowText : ℕ → List ℕ
 rowText n = bytes "refused," ++ fieldText n 10
 
--- a refusal prints its row; 8 the edit in the way too, as third field
+-- a refusal prints its row; 8 the transaction in the way too, as third field
 unfoldable pub refusalText : Refusal → List ℕ
 refusalText (Blocked e) = recordText (bytes "refused") (refusalNumber (Blocked e)) e
 refusalText Malformed = rowText (refusalNumber Malformed)

@@ -2,15 +2,15 @@
 //
 // A line is written whole, with its LF, or not at all. No public function has a `requires`.
 ghost use mathlib.Core.Path.{_≡_};
-ghost use mathlib.Core.List.{[], _∷_, _++_};
-ghost use Prim.Native.Nat.{_+_, _≤_, _<_};
+ghost use mathlib.Core.List.{_++_};
+ghost use Prim.Native.Nat.{_+_, _≤_};
 ghost use lib.ListN.{length};
 ghost use lib.Seq.{sets};
 ghost use Rattle.buffers.specs.Written.{writtenAt};
 ghost use Rattle.cues.specs.CueText.{cueText};
-ghost use Rattle.records.specs.Record.{fieldText, recordText};
+ghost use Rattle.records.specs.Record.{fieldText};
 ghost use Rattle.lines.specs.Ascii.{bytes};
-ghost use Rattle.answers.specs.Answer.{rowText, refusalText, answerText};
+ghost use Rattle.answers.specs.Answer.{refusalText, answerText};
 use buffers::Written;
 use buffers::fits;
 use buffers::write_bytes;
@@ -77,7 +77,7 @@ fn put_cue_line(buf: &mut [u8], at: usize, cue: Cue) -> usize
 }
 
 // Writes the line `cue,t,m,p` with its LF, if it fits.
-fn write_cue_line(buf: &mut [u8], at: usize, cue: Cue) -> Written
+pub fn write_cue_line(buf: &mut [u8], at: usize, cue: Cue) -> Written
     ensures { λ r. ⌜ (r, now (buf .exit)) ≡ writtenAt (now (buf .entry)) at (bytes "cue," ++ cueText cue) ⌝ }
 {
     if fits(buf.len(), at, 4 + cue_length(cue)) {
@@ -97,8 +97,8 @@ fn write_refusal(buf: &mut [u8], at: usize, refusal: Refusal) -> Written
     write_number_line(buf, at, b"refused,", refusal_number(refusal))
 }
 
-// Writes the line of an answer, with its LF, at any place of the buffer, if it fits there.
-fn write_any_answer(buf: &mut [u8], at: usize, answer: Answer) -> Written
+// Writes the line of an answer, with its LF, at a place of the buffer, if it fits there.
+pub fn write_answer(buf: &mut [u8], at: usize, answer: Answer) -> Written
     ensures { λ r. ⌜ (r, now (buf .exit)) ≡ writtenAt (now (buf .entry)) at (answerText answer) ⌝ }
 {
     match answer {
@@ -110,146 +110,6 @@ fn write_any_answer(buf: &mut [u8], at: usize, answer: Answer) -> Written
         Answer::Left(n) => write_number_line(buf, at, b"left,", n as u64),
         Answer::Refused(refusal) => write_refusal(buf, at, refusal),
     }
-}
-
-// ---- Short lines: most answers have one. Where twelve bytes fit, as the longest has, they are stored straight:
-// no more tests of the room, and no digits counted. The compiler makes one store of the bytes of each `put_`.
-
-// Two bytes, at a place where they fit.
-fn put_two(buf: &mut [u8], at: usize, a: u8, b: u8)
-    requires { ⌜ at + 2 ≤ length (now buf) ⌝ }
-    ensures { λ _. ⌜ now (buf .exit) ≡ sets (now (buf .entry)) at (a ∷ b ∷ []) ⌝ }
-{
-    buf[at] = a;
-    buf[at + 1] = b;
-}
-
-// Three bytes, at a place where they fit.
-fn put_three(buf: &mut [u8], at: usize, a: u8, b: u8, c: u8)
-    requires { ⌜ at + 3 ≤ length (now buf) ⌝ }
-    ensures { λ _. ⌜ now (buf .exit) ≡ sets (now (buf .entry)) at (a ∷ b ∷ c ∷ []) ⌝ }
-{
-    buf[at] = a;
-    buf[at + 1] = b;
-    buf[at + 2] = c;
-}
-
-// Four bytes, at a place where they fit.
-fn put_four(buf: &mut [u8], at: usize, a: u8, b: u8, c: u8, d: u8)
-    requires { ⌜ at + 4 ≤ length (now buf) ⌝ }
-    ensures { λ _. ⌜ now (buf .exit) ≡ sets (now (buf .entry)) at (a ∷ b ∷ c ∷ d ∷ []) ⌝ }
-{
-    buf[at] = a;
-    buf[at + 1] = b;
-    buf[at + 2] = c;
-    buf[at + 3] = d;
-}
-
-// The comma (44), the digit of n and the LF that end a line, at a place where they fit.
-fn put_last_digit(buf: &mut [u8], at: usize, n: u64)
-    requires { ⌜ (at + 3 ≤ length (now buf)) × (n < 10) ⌝ }
-    ensures { λ _. ⌜ now (buf .exit) ≡ sets (now (buf .entry)) at (44 ∷ fieldText n 10) ⌝ }
-{
-    put_three(buf, at, b',', (48 + n) as u8, b'\n');
-}
-
-// The word that both lines of refusals begin with, at a place where it fits.
-fn put_refused_word(buf: &mut [u8], at: usize)
-    requires { ⌜ at + 7 ≤ length (now buf) ⌝ }
-    ensures { λ _. ⌜ now (buf .exit) ≡ sets (now (buf .entry)) at (bytes "refused") ⌝ }
-{
-    put_four(buf, at, b'r', b'e', b'f', b'u');
-    put_three(buf, at + 4, b's', b'e', b'd');
-}
-
-// Writes the line `left,n` with its LF where twelve bytes fit.
-fn write_left_in_room(buf: &mut [u8], at: usize, n: u64) -> Written
-    requires { ⌜ at + 12 ≤ length (now buf) ⌝ }
-    ensures { λ r. ⌜ (r, now (buf .exit)) ≡ writtenAt (now (buf .entry)) at (bytes "left," ++ fieldText n 10) ⌝ }
-{
-    if n < 10 {
-        put_four(buf, at, b'l', b'e', b'f', b't');
-        put_last_digit(buf, at + 4, n);
-        return Written::Upto(at + 7);
-    }
-    write_number_line(buf, at, b"left,", n)
-}
-
-// Writes the line `refused,n` with its LF where twelve bytes fit.
-fn write_row_in_room(buf: &mut [u8], at: usize, n: u64) -> Written
-    requires { ⌜ at + 12 ≤ length (now buf) ⌝ }
-    ensures { λ r. ⌜ (r, now (buf .exit)) ≡ writtenAt (now (buf .entry)) at (rowText n) ⌝ }
-{
-    if n < 10 {
-        put_refused_word(buf, at);
-        put_last_digit(buf, at + 7, n);
-        return Written::Upto(at + 10);
-    }
-    write_number_line(buf, at, b"refused,", n)
-}
-
-// Writes the line `refused,8,e` with its LF where twelve bytes fit.
-fn write_blocked_in_room(buf: &mut [u8], at: usize, e: u64) -> Written
-    requires { ⌜ at + 12 ≤ length (now buf) ⌝ }
-    ensures { λ r. ⌜ (r, now (buf .exit)) ≡ writtenAt (now (buf .entry)) at (recordText (bytes "refused") 8 e) ⌝ }
-{
-    if e < 10 {
-        put_refused_word(buf, at);
-        put_two(buf, at + 7, b',', b'8');
-        put_last_digit(buf, at + 9, e);
-        return Written::Upto(at + 12);
-    }
-    write_record(buf, at, b"refused", 8, e)
-}
-
-// Writes the line of a refusal with its LF where twelve bytes fit.
-fn write_refusal_in_room(buf: &mut [u8], at: usize, refusal: Refusal) -> Written
-    requires { ⌜ at + 12 ≤ length (now buf) ⌝ }
-    ensures { λ r. ⌜ (r, now (buf .exit)) ≡ writtenAt (now (buf .entry)) at (refusalText refusal) ⌝ }
-{
-    if let Refusal::Blocked(e) = refusal {
-        return write_blocked_in_room(buf, at, e as u64);
-    }
-    write_row_in_room(buf, at, refusal_number(refusal))
-}
-
-// Writes the line of an answer with its LF where twelve bytes fit.
-fn write_answer_in_room(buf: &mut [u8], at: usize, answer: Answer) -> Written
-    requires { ⌜ at + 12 ≤ length (now buf) ⌝ }
-    ensures { λ r. ⌜ (r, now (buf .exit)) ≡ writtenAt (now (buf .entry)) at (answerText answer) ⌝ }
-{
-    match answer {
-        Answer::Ok => {
-            put_three(buf, at, b'o', b'k', b'\n');
-            Written::Upto(at + 3)
-        }
-        Answer::Yes => {
-            put_four(buf, at, b'y', b'e', b's', b'\n');
-            Written::Upto(at + 4)
-        }
-        Answer::No => {
-            put_three(buf, at, b'n', b'o', b'\n');
-            Written::Upto(at + 3)
-        }
-        Answer::Empty => {
-            put_four(buf, at, b'e', b'm', b'p', b't');
-            put_two(buf, at + 4, b'y', b'\n');
-            Written::Upto(at + 6)
-        }
-        Answer::Cue(cue) => write_cue_line(buf, at, cue),
-        Answer::Left(n) => write_left_in_room(buf, at, n as u64),
-        Answer::Refused(refusal) => write_refusal_in_room(buf, at, refusal),
-    }
-}
-
-// Writes the line of an answer, with its LF, at a place of the buffer, if it fits there.
-pub fn write_answer(buf: &mut [u8], at: usize, answer: Answer) -> Written
-    ensures { λ r. ⌜ (r, now (buf .exit)) ≡ writtenAt (now (buf .entry)) at (answerText answer) ⌝ }
-{
-    if fits(buf.len(), at, 12) {
-        return write_answer_in_room(buf, at, answer);
-    }
-    write_any_answer(buf, at, answer)
 }
 
 // How many bytes the line of a refusal has, with its LF.

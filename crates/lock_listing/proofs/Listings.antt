@@ -2,11 +2,10 @@
 use mathlib.Core.Path.{_≡_, refl, sym, ap, _∙_}
 use mathlib.Core.Bool.{Bool, true, false}
 use mathlib.Core.List.{List, [], _∷_, _++_, map, flatten, append-assoc, append-nil}
-use Prim.Native.Nat.{ℕ, suc, zero, _+_, _≤_, _<_}
-use native.Mathlib.Nat.{le-of-suc-le-suc, not-suc-le-zero}
+use Prim.Native.Nat.{ℕ, suc, _+_, _≤_, _<_}
 use native.Mathlib.Numerals.{add-one}
 use native.Mathlib.Omega.{arith}
-use lib.ListN.{length, drop, getD, length-append, length-map, List·getD-map, drop-of-length-le}
+use lib.ListN.{length, drop, getD, length-append, drop-of-length-le}
 use lib.Seq.{drop-cons, getD-take, length-take-le}
 use Rattle.lines.specs.Ascii.{bytes}
 use Rattle.numbers.specs.Digits.{digitsOf}
@@ -16,7 +15,7 @@ use Rattle.cues.specs.CueText.{cueText}
 use Rattle.boosting.specs.Locks.{Locks}
 use Rattle.boosting.specs.Listing.{lockLine, modeLine, lockLines, modeLines, modesOf, listingOf, listingFrom}
 use Rattle.transactions.specs.View.{WordsFit, locksOf, transactionOf}
-use Rattle.store_words.specs.Words.{AllFit}
+use Rattle.store_words.proofs.Places.{next, over}
 use Rattle.lock_listing.specs.Listed.{modeText, locksText, modesText, transactionText}
 
 -- ---- one line
@@ -112,28 +111,19 @@ module _ (e : ℕ) (w : List ℕ) where
         rw (drop-of-length-le (locksOf w .cues) {i = j} g)
 
 -- ---- all eight
-pub fit-at : (ts : List (List ℕ)) → AllFit ts → (i : ℕ) → i < length ts → WordsFit (getD ts i [])
-fit-at [] h i t = absurd (not-suc-le-zero t)
-fit-at (w ∷ ts) h zero t = h .0
-fit-at (w ∷ ts) h (suc i) t = fit-at ts (h .1) i (le-of-suc-le-suc t)
-
 -- the lines of the transactions from place i on, which is number i + 1
 abbrev pub listingAfter : List (List ℕ) → ℕ → List ℕ
 listingAfter ts i = flatten (listingFrom (i + 1) (drop i (map transactionOf ts)))
 
 module _ (ts : List (List ℕ)) (i : ℕ) where
-  count : length (map transactionOf ts) ≡ length ts
-  count = length-map ts transactionOf
-
   pub listing-more : i < length ts
       → listingAfter ts i ≡ transactionText (i + 1) (getD ts i []) ++ listingAfter ts (i + 1)
   unfolding listingFrom
   listing-more h =
-      let d = drop-cons (map transactionOf ts) i (transactionOf []) (omega (arith, count)) in
-      rw (d, List·getD-map transactionOf ts i [], add-one i, add-one (suc i))
+      rw (next ts i h, add-one i, add-one (suc i))
       (flatten-append (listingOf (suc i) (locksOf (getD ts i [])))
       (listingFrom (suc (suc i)) (drop (suc i) (map transactionOf ts))))
 
   pub listing-over : length ts ≤ i → listingAfter ts i ≡ []
   unfolding flatten listingFrom
-  listing-over h = rw (drop-of-length-le (map transactionOf ts) {i = i} (omega (arith, count)))
+  listing-over h = rw (over ts i h)

@@ -4,15 +4,15 @@ use mathlib.Core.Path.{_≡_, refl, ap, sym, _∙_}
 use mathlib.Core.Bool.{Bool, true, false}
 use mathlib.Core.List.{List, [], _∷_, map, tail, head?}
 use mathlib.Core.Option.{Option}
-use native.Mathlib.Nat.{le-of-suc-le-suc, not-suc-le-zero}
+use native.Mathlib.Nat.{not-suc-le-zero}
 use native.Mathlib.Omega.{arith}
-use lib.ListN.{length, getD, set, length-set, List·getD-map}
+use lib.ListN.{length, getD, set, length-set}
 use lib.Seq.{getD-set-same}
 use Rattle.answers.specs.declared.Answer.{Answer}
 use Rattle.answers.specs.declared.Answer.the-variants.{Ok, Left}
 use Rattle.boosting.specs.Object.{Call, State, effect, reply, answerOf}
 use Rattle.boosting.specs.Undo.{Entry, entryOf, noted}
-use Rattle.boosting.specs.Locks.{Lock, lockOf, hold, noLocks}
+use Rattle.boosting.specs.Locks.{Lock, lockOf, hold}
 use Rattle.boosting.specs.Store.{
   «open»,
   aborting,
@@ -32,15 +32,11 @@ use Rattle.boosting.proofs.Keeping.{unwound-log}
 use Rattle.boosting.proofs.Sound.{request-keeps-sound, sound-has-room}
 use Rattle.transactions.specs.View.{WordsFit, Made, transactionOf, unwoundOnce}
 use Rattle.store_words.specs.Words.{stateOf, storeOf, AllFit, TransactionsFit}
+use Rattle.store_words.proofs.Places.{fit-at, transaction-is}
 use Rattle.performing.specs.States.{StateFits, StateHolds, HasRoom, undone, entered}
 use Rattle.performing.specs.Performed.{Ready, Performed}
 
 -- ---- one transaction among the eight
-fits-at : (ts : List (List ℕ)) (i : ℕ) → AllFit ts → i < length ts → WordsFit (getD ts i [])
-fits-at [] i f h = absurd (not-suc-le-zero h)
-fits-at (t ∷ ts) zero f h = f .0
-fits-at (t ∷ ts) (suc i) f h = fits-at ts i (f .1) (le-of-suc-le-suc h)
-
 fits-set : (ts : List (List ℕ)) (i : ℕ) (w : List ℕ) → AllFit ts → WordsFit w → AllFit (set ts i w)
 fits-set [] i w f h = tt
 fits-set (t ∷ ts) zero w f h = (h, f .1)
@@ -51,19 +47,6 @@ map-set : (ts : List (List ℕ)) (i : ℕ) (w : List ℕ)
 map-set [] i w = refl
 map-set (t ∷ ts) zero w = refl
 map-set (t ∷ ts) (suc i) w = ap (λ (l : List Transaction). transactionOf t ∷ l) (map-set ts i w)
-
-no-words : transactionOf [] ≡ closedTransaction
-unfolding closedTransaction noLocks
-no-words = refl
-
--- the transaction number e is the one that the words at e - 1 show
-pub transaction-is : (s q : List ℕ) (ts : List (List ℕ)) (e : ℕ) → 1 ≤ e
-    → transaction (storeOf s q ts) e ≡ transactionOf (getD ts (e - 1) [])
-unfolding transaction
-transaction-is s q ts zero h = absurd (not-suc-le-zero h)
-transaction-is s q ts (suc i) h =
-    let n : suc i - 1 ≡ i = omega arith in
-    rw n (ap (getD (map transactionOf ts) i) (sym no-words) ∙ List·getD-map transactionOf ts i [])
 
 -- new words for script, queue and the transaction number e
 put-is : (s q : List ℕ) (ts : List (List ℕ)) (e : ℕ) (s′ q′ w : List ℕ) (x : State) (t : Transaction) → 1 ≤ e
@@ -76,9 +59,6 @@ put-is s q ts (suc i) s′ q′ w x t h a b =
     let m : map transactionOf (set ts (suc i - 1) w) ≡ set (map transactionOf ts) i t =
     rw n (map-set ts i w ∙ ap (set (map transactionOf ts) i) b) in
     λ j. record { state = a j; transactions = m j }
-
-pub transactions-fit : (ts : List (List ℕ)) (i : ℕ) → TransactionsFit ts → i < 8 → WordsFit (getD ts i [])
-transactions-fit ts i f h = fits-at ts i (f .each) (omega (arith, f .eight))
 
 -- ---- what an accepted step finds, and leaves
 module _ (s q : List ℕ) (ts : List (List ℕ)) (e : ℕ) (a : Action) (r : Ready s q ts e a) where
@@ -104,7 +84,7 @@ module _ (s q : List ℕ) (ts : List (List ℕ)) (e : ℕ) (a : Action) (r : Rea
   state-same = record { is = refl; script = r .fits .script; queue = r .fits .queue }
 
   pub words-fit : 1 ≤ e → e ≤ 8 → WordsFit (getD ts (e - 1) [])
-  words-fit h k = transactions-fit ts (e - 1) (r .fits .transactions) (omega arith)
+  words-fit h k = fit-at ts (r .fits .transactions) (e - 1) (omega arith)
 
   pub performed : (s′ q′ w : List ℕ) (x : State) (t : Transaction) (b b′ : Answer) → 1 ≤ e → StateHolds s′ q′ x
       → Made w t → b ≡ b′ → perform (storeOf s q ts) e a ≡ record { store = put (storeOf s q ts) x e t; answer = b′ }

@@ -13,9 +13,9 @@ ghost use Rattle.performing.specs.Performed.{Shows};
 ghost use Rattle.session.specs.Output.{answerLines};
 ghost use Rattle.session.specs.Answering.{RoomFor, Kept};
 ghost use Rattle.session.specs.Put.{Put};
-use answers::write_answer;
 use buffers::Written;
 use scanning::scan_step;
+use short_answers::write_answer;
 use store::execute;
 
 // Every answer line has at most so many bytes.

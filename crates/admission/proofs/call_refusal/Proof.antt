@@ -1,18 +1,17 @@
 -- `admission::call_refusal` meets its contract, row by row. Assumes nothing.
-use Prim.Native.Nat.{_-_, _≤_}
+use Prim.Native.Nat.{_-_}
 use mathlib.Core.Path.{ap, sym, _∙_}
 use native.Mathlib.Omega.{arith}
 use borrow.Author.Needs.{needs}
-use lib.ListN.{length}
 use Rattle.boosting.specs.Store.{Transaction}
 use Rattle.boosting.specs.Room.{locksFull}
 use Rattle.transactions.specs.Code.{modelLock}
 use Rattle.undo_logs.specs.Code.{modelNewest}
 use Rattle.store_words.specs.Words.{storeOf}
 use Rattle.store_words.specs.Requests.{modelCall}
-use Rattle.admission.specs.Answers.{modelBlocker}
-use Rattle.admission.proofs.Blocking.{fit-at}
-use Rattle.admission.proofs.Rows.{numbered, blocked, locks-full, locks-free}
+use Rattle.conflicts.specs.Code.{modelBlocker}
+use Rattle.store_words.proofs.Places.{fit-at, transaction-is}
+use Rattle.admission.proofs.Rows.{blocked, locks-full, locks-free}
 use Rattle.admission.proofs.call_refusal.Statement.{statement}
 use Rattle.admission.proofs.call_refusal.Tie as tie
 
@@ -50,8 +49,7 @@ index-1-locks-full c = search needs
 locks-full-requires : tie.Need-locks-full-requires
 locks-full-requires c κs =
     let s = c .before .before .before .before .before in
-    let f = s .pre .0 .transactions in
-    fit-at (s .args .ts .now) (f .each) (s .args .e - 1) (omega (arith, s .pre .1, s .pre .2, f .eight))
+    fit-at (s .args .ts .now) (s .pre .0 .transactions) (s .args .e - 1) (omega (arith, s .pre .1, s .pre .2))
 
 returns-2 : tie.Need-returns-2
 returns-2 c =
@@ -61,8 +59,7 @@ returns-2 c =
     let a = s .args in
     let d = storeOf (a .script .now) (a .queue .now) (a .ts .now) in
     let free = ap modelBlocker (sym (c .before .before .before .enum-told .given .1)) ∙ p .find-blocker .ensures in
-    let h : a .e ≤ length (a .ts .now) = omega (arith, s .pre .2, s .pre .0 .transactions .eight) in
-    let t = numbered (a .script .now) (a .queue .now) (a .ts .now) (a .e) (s .pre .1) h in
+    let t = transaction-is (a .script .now) (a .queue .now) (a .ts .now) (a .e) (s .pre .1) in
     let f = sym (c .if1 .taken) ∙ c .before .locks-full .ensures
     ∙ ap (λ (x : Transaction). locksFull (modelLock (l .result)) (x .locks)) (sym t) in
     locks-full d (a .e) (modelCall (a .call)) (modelLock (l .result)) (l .ensures) free f
@@ -82,8 +79,7 @@ returns-3 c =
     let a = s .args in
     let d = storeOf (a .script .now) (a .queue .now) (a .ts .now) in
     let free = ap modelBlocker (sym (q .before .before .before .enum-told .given .1)) ∙ p .find-blocker .ensures in
-    let h : a .e ≤ length (a .ts .now) = omega (arith, s .pre .2, s .pre .0 .transactions .eight) in
-    let t = numbered (a .script .now) (a .queue .now) (a .ts .now) (a .e) (s .pre .1) h in
+    let t = transaction-is (a .script .now) (a .queue .now) (a .ts .now) (a .e) (s .pre .1) in
     let f = sym (q .if1 .left) ∙ q .before .locks-full .ensures
     ∙ ap (λ (x : Transaction). locksFull (modelLock (l .result)) (x .locks)) (sym t) in
     locks-free d (a .e) (modelCall (a .call)) (modelLock (l .result)) (l .ensures) free f

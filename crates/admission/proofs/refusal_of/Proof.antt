@@ -65,8 +65,8 @@ returns-2 c =
     let lo : 1 ≤ a .e = omega (arith, p .before .before .before .if1 .left) in
     let hi = ltb-false 8 (a .e) (p .before .before .if2 .left) in
     let q = ap modelStanding (sym (c .before .enum-told .given .1)) ∙ p .standing-of .ensures in
-    when-closed (a .script .now) (a .queue .now) (a .ts .now) (a .e) (modelAction (a .action)) lo hi
-    (s .pre .transactions .eight) q (c .closed-refusal .ensures)
+    when-closed (a .script .now) (a .queue .now) (a .ts .now) (a .e) (modelAction (a .action)) lo hi q
+    (c .closed-refusal .ensures)
 
 returns-3 : tie.Need-returns-3
 returns-3 c =
@@ -76,8 +76,8 @@ returns-3 c =
     let lo : 1 ≤ a .e = omega (arith, p .before .before .before .if1 .left) in
     let hi = ltb-false 8 (a .e) (p .before .before .if2 .left) in
     let q = ap modelStanding (sym (c .before .enum-told2 .given .1)) ∙ p .standing-of .ensures in
-    when-open (a .script .now) (a .queue .now) (a .ts .now) (a .e) (modelAction (a .action)) lo hi
-    (s .pre .transactions .eight) q (c .open-refusal .ensures)
+    when-open (a .script .now) (a .queue .now) (a .ts .now) (a .e) (modelAction (a .action)) lo hi q
+    (c .open-refusal .ensures)
 
 returns-4 : tie.Need-returns-4
 returns-4 c =
@@ -87,8 +87,8 @@ returns-4 c =
     let lo : 1 ≤ a .e = omega (arith, p .before .before .before .if1 .left) in
     let hi = ltb-false 8 (a .e) (p .before .before .if2 .left) in
     let q = ap modelStanding (sym (c .before .enum-told3 .given .1)) ∙ p .standing-of .ensures in
-    when-aborting (a .script .now) (a .queue .now) (a .ts .now) (a .e) (modelAction (a .action)) lo hi
-    (s .pre .transactions .eight) q (c .aborting-refusal .ensures)
+    when-aborting (a .script .now) (a .queue .now) (a .ts .now) (a .e) (modelAction (a .action)) lo hi q
+    (c .aborting-refusal .ensures)
 
 pub refusal-of-spec : {M : Type 1} → statement M
 refusal-of-spec =

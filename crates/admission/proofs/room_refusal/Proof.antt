@@ -8,7 +8,7 @@ use borrow.Author.Needs.{needs}
 use Rattle.refusals.specs.declared.Refusal.the-variants.{ScriptFull, QueueFull}
 use Rattle.boosting.specs.Rows.{when}
 use Rattle.undo_logs.specs.Code.{modelEntry, modelNewest}
-use Rattle.admission.proofs.Blocking.{fit-at}
+use Rattle.store_words.proofs.Places.{fit-at}
 use Rattle.admission.proofs.Rows.{no-entry, log-full, adds, removes, pushes, takes}
 use Rattle.admission.proofs.room_refusal.Statement.{statement}
 use Rattle.admission.proofs.room_refusal.Tie as tie
@@ -36,16 +36,15 @@ index-1-entry-count c = search needs
 entry-count-requires : tie.Need-entry-count-requires
 entry-count-requires c κs =
     let s = c .before .before .before .before in
-    let f = s .pre .0 .transactions in
-    fit-at (s .args .ts .now) (f .each) (s .args .e - 1) (omega (arith, s .pre .1, s .pre .2, f .eight))
+    fit-at (s .args .ts .now) (s .pre .0 .transactions) (s .args .e - 1) (omega (arith, s .pre .1, s .pre .2))
 
 returns-2 : tie.Need-returns-2
 returns-2 c =
     let s = c .before .before .before .before .before .before in
     let a = s .args in
     let g = c .before .before .before .before .entry .given in
-    log-full (a .script .now) (a .queue .now) (a .ts .now) (a .e) _ (s .pre .1) (s .pre .2)
-    (s .pre .0 .transactions .eight) _ (c .before .entry-count .ensures .0)
+    log-full (a .script .now) (a .queue .now) (a .ts .now) (a .e) _ (s .pre .1) _
+    (c .before .entry-count .ensures .0)
     (modelEntry (g .0 .0)) (ap modelNewest (g .1)) (c .if1 .taken)
 
 enum-known-noted : tie.Need-enum-known-noted
@@ -79,8 +78,8 @@ returns-3 c =
     let a = s .args in
     let g = p .before .before .before .before .entry .given in
     let n = c .before .before .before .noted .given in
-    adds (a .script .now) (a .queue .now) (a .ts .now) (a .e) _ (s .pre .1) (s .pre .2)
-    (s .pre .0 .transactions .eight) _ (p .before .entry-count .ensures .0) (n .0 .0) (p .if1 .left)
+    adds (a .script .now) (a .queue .now) (a .ts .now) (a .e) _ (s .pre .1) _
+    (p .before .entry-count .ensures .0) (n .0 .0) (p .if1 .left)
     (ap modelNewest (g .1) ∙ ap (λ x. some (modelEntry x)) (n .1))
     (c .refused-when .ensures ∙ ap (λ (b : Bool). when b ScriptFull) (c .before .script-full .ensures))
 
@@ -91,8 +90,8 @@ returns-4 c =
     let a = s .args in
     let g = p .before .before .before .before .entry .given in
     let n = c .enum-told2 .given in
-    removes (a .script .now) (a .queue .now) (a .ts .now) (a .e) _ (s .pre .1) (s .pre .2)
-    (s .pre .0 .transactions .eight) _ (p .before .entry-count .ensures .0) (n .0 .0) (p .if1 .left)
+    removes (a .script .now) (a .queue .now) (a .ts .now) (a .e) _ (s .pre .1) _
+    (p .before .entry-count .ensures .0) (n .0 .0) (p .if1 .left)
     (ap modelNewest (g .1) ∙ ap (λ x. some (modelEntry x)) (n .1))
 
 returns-5 : tie.Need-returns-5
@@ -102,8 +101,8 @@ returns-5 c =
     let a = s .args in
     let g = p .before .before .before .before .entry .given in
     let n = c .before .before .enum-told3 .given in
-    pushes (a .script .now) (a .queue .now) (a .ts .now) (a .e) _ (s .pre .1) (s .pre .2)
-    (s .pre .0 .transactions .eight) _ (p .before .entry-count .ensures .0) (n .0 .0) (p .if1 .left)
+    pushes (a .script .now) (a .queue .now) (a .ts .now) (a .e) _ (s .pre .1) _
+    (p .before .entry-count .ensures .0) (n .0 .0) (p .if1 .left)
     (ap modelNewest (g .1) ∙ ap (λ x. some (modelEntry x)) (n .1))
     (c .refused-when2 .ensures ∙ ap (λ (b : Bool). when b QueueFull) (c .before .queue-full .ensures))
 
@@ -114,8 +113,8 @@ returns-6 c =
     let a = s .args in
     let g = p .before .before .before .before .entry .given in
     let n = c .enum-told4 .given in
-    takes (a .script .now) (a .queue .now) (a .ts .now) (a .e) _ (s .pre .1) (s .pre .2)
-    (s .pre .0 .transactions .eight) _ (p .before .entry-count .ensures .0) (n .0 .0) (p .if1 .left)
+    takes (a .script .now) (a .queue .now) (a .ts .now) (a .e) _ (s .pre .1) _
+    (p .before .entry-count .ensures .0) (n .0 .0) (p .if1 .left)
     (ap modelNewest (g .1) ∙ ap (λ x. some (modelEntry x)) (n .1))
 
 pub room-refusal-spec : {M : Type 1} → statement M

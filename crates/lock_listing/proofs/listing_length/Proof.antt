@@ -7,10 +7,10 @@ use native.Mathlib.Omega.{arith}
 use lib.ListN.{length, getD, length-append}
 use Rattle.boosting.specs.Listing.{lockLines, modesOf}
 use Rattle.transactions.specs.View.{locksOf}
+use Rattle.store_words.proofs.Places.{fit-at}
 use Rattle.lock_listing.specs.Listed.{transactionText, listingText}
 use Rattle.lock_listing.proofs.Listings.{
   append-length,
-  fit-at,
   listingAfter,
   listing-more,
   listing-over,
@@ -41,7 +41,7 @@ index-1-locks-length c = omega arith
 locks-length-requires : tie.Need-locks-length-requires Inv-loop μ-loop
 locks-length-requires c κs =
     let s = c .before .before .before in
-    fit-at (s .args .ts .now) (s .pre .each) (c .before .before .loop .i) (omega (arith, s .pre .eight))
+    fit-at (s .args .ts .now) (s .pre) (c .before .before .loop .i) (omega arith)
 
 add-sum : tie.Need-add-sum Inv-loop μ-loop
 add-sum c = omega arith

@@ -6,8 +6,9 @@ use Prim.Native.Nat.{_+_, _-_, _≤_}
 use native.Mathlib.Omega.{arith}
 use lib.ListN.{length, getD}
 use lib.Seq.{sets}
+use Rattle.store_words.proofs.Places.{fit-at}
 use Rattle.lock_listing.specs.Listed.{transactionText, listingText}
-use Rattle.lock_listing.proofs.Listings.{fit-at, listingAfter, listing-more, listing-over}
+use Rattle.lock_listing.proofs.Listings.{listingAfter, listing-more, listing-over}
 use Rattle.lock_listing.proofs.Puts.{first-fits, rest-ends, rest-stored}
 use borrow.Author.Needs.{needs}
 use Rattle.lock_listing.proofs.put_listing.Statement.{statement}
@@ -41,7 +42,7 @@ put-transaction-requires c κs =
     let ts = s .args .ts .now in
     let l = o .loop in
     let h = s .pre .0 in (
-      fit-at ts (h .each) (l .i) (omega (arith, h .eight)),
+      fit-at ts h (l .i) (omega arith),
       first-fits (l .buf) (transactionText (l .i + 1) (getD ts (l .i) [])) (listingAfter ts (l .i + 1))
           (listingAfter ts (l .i)) (l .end) (listing-more ts (l .i) (omega (arith, h .eight)))
           (omega (arith, l .inv, s .pre .1)),

@@ -7,6 +7,7 @@ use Rattle.answers.specs.declared.Answer.the-variants.{Ok}
 use Rattle.boosting.specs.Store.{closed, aborting}
 use Rattle.boosting.specs.Rows.{abort}
 use Rattle.transactions.specs.Code.{modelStanding}
+use Rattle.store_words.proofs.Places.{fit-at}
 use Rattle.performing.proofs.Stores as stores
 use Rattle.recovery.proofs.Recovering as laws
 use Rattle.recovery.proofs.abort_open.Statement.{statement}
@@ -43,7 +44,7 @@ abort-requires : tie.Need-abort-requires
 abort-requires c κs =
     let s = c .before .before .before .before .before in
     let e = s .args .e in
-    stores.transactions-fit (s .args .ts .now) (e - 1) (s .pre .0 .transactions) (omega arith)
+    fit-at (s .args .ts .now) (s .pre .0 .transactions) (e - 1) (omega arith)
 
 enum-told-3 : tie.Need-enum-told-3
 enum-told-3 c = search needs

@@ -6,7 +6,7 @@ use native.Mathlib.Omega.{arith}
 use lib.ListN.{length}
 use Rattle.boosting.specs.Store.{Transaction}
 use Rattle.store_words.specs.Words.{storeOf}
-use Rattle.performing.proofs.Stores as stores
+use Rattle.store_words.proofs.Places.{fit-at, transaction-is}
 use Rattle.recovery.proofs.Recovering as laws
 use Rattle.recovery.proofs.recover_one.Statement.{statement}
 use Rattle.recovery.proofs.recover_one.Tie as tie
@@ -24,7 +24,7 @@ entry-count-requires : tie.Need-entry-count-requires
 entry-count-requires c κs =
     let s = c .before in
     let e = s .args .e in
-    stores.transactions-fit (s .args .ts .now) (e - 1) (s .pre .0 .transactions) (omega arith)
+    fit-at (s .args .ts .now) (s .pre .0 .transactions) (e - 1) (omega arith)
 
 abort-open-requires : tie.Need-abort-open-requires
 abort-open-requires c κs = search needs
@@ -44,7 +44,7 @@ returns c =
     let e = s .args .e in
     let n = c .before .before .before .before .before .before .before .before .entry-count in
     let l =
-    n .ensures .0 ∙ ap (λ (t : Transaction). length (t .log)) (sym (stores.transaction-is x q ts e (s .pre .1))) in
+    n .ensures .0 ∙ ap (λ (t : Transaction). length (t .log)) (sym (transaction-is x q ts e (s .pre .1))) in
     let a = c .before .before .before .before .abort-open in
     record {
       is =

@@ -1,0 +1,2 @@
+-- Laws of the search, transaction by transaction.
+pub mod Blocking

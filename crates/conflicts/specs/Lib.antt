@@ -1,0 +1,2 @@
+-- What the code's answers mean.
+pub mod Code

@@ -1,0 +1,2 @@
+-- Laws of short lines; the folders beside them hold the proofs of the functions. Assumes nothing.
+pub mod ShortLines

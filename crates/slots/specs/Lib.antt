@@ -1,0 +1,2 @@
+-- The bound that spares the count of the slots.
+pub mod Entries

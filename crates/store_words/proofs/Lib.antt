@@ -1,0 +1,2 @@
+-- Laws of the words that hold the store.
+pub mod Places
