@@ -61,3 +61,13 @@ pub cue-conflict : (key : ℕ) (w : List ℕ) (b : Bool) → memberOf key (take 
     → conflicts (cueLock key) (transactionOf w .locks) ≡ b
 unfolding conflicts
 cue-conflict key w b m = m
+
+-- who was found, by number; 0 is nobody
+abbrev pub shown : ℕ → Option ℕ
+shown n = cond (eqb n 0) none (some n)
+
+pub shows-nobody : (n : ℕ) → n ≡ 0 → none ≡ shown n
+shows-nobody n e = rw (eq-eqb n 0 e)
+
+pub shows-some : (n : ℕ) → (n ≡ 0 → ⊥) → some n ≡ shown n
+shows-some n h = rw (ne-eqb n 0 h)

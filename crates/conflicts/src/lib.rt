@@ -21,8 +21,8 @@ pub enum Blocker {
     Nobody,
 }
 
-// The first transaction other than e whose sieve lets the key pass, counted from 0; 8 where there is none. Which one
-// that is cannot be guessed, so all are looked at, and nothing branches on what is found.
+// The first transaction whose sieve lets the key pass, counted from 0; 8 where there is none: nobody before it is in the
+// way of e. Which one that is cannot be guessed, so all are looked at, and nothing branches on what is found.
 fn first_candidate(ts: &[[u64; 64]; 8], e: usize, key: u64) -> usize
     requires { ⌜ TransactionsFit (now ts) ⌝ }
     ensures { λ r. ⌜ (blocker e (cueLock key) (r + 1) (drop r (map transactionOf (now (ts .entry))))
@@ -33,9 +33,7 @@ fn first_candidate(ts: &[[u64; 64]; 8], e: usize, key: u64) -> usize
     while 0 < i {
         i -= 1;
         if transactions::may_hold(&ts[i], key) {
-            if i + 1 != e {
-                first = i;
-            }
+            first = i;
         }
     }
     first
@@ -68,22 +66,27 @@ fn find_holder(ts: &[[u64; 64]; 8], e: usize, key: u64) -> Blocker
     found
 }
 
-// The first transaction other than e that holds a lock in conflict with this one; quick for the queue's modes.
+// The first transaction other than e that holds a lock in conflict with this one, for the queue's modes: here too all
+// are looked at, and nothing branches on what is found.
 fn find_conflict(ts: &[[u64; 64]; 8], e: usize, lock: Lock) -> Blocker
     requires { ⌜ TransactionsFit (now ts) ⌝ }
     ensures { λ r. ⌜ modelBlocker r ≡ blocker e (modelLock lock) 1 (map transactionOf (now (ts .entry))) ⌝ }
 {
-    let mut i = 0;
-    while i < 8 {
-        let number = i + 1;
-        if number != e {
-            if transactions::in_conflict(&ts[i], lock) {
-                return Blocker::By(number);
+    let mut found = 0;
+    let mut i = 8;
+    while 0 < i {
+        let number = i;
+        i -= 1;
+        if transactions::in_conflict(&ts[i], lock) {
+            if number != e {
+                found = number;
             }
         }
-        i += 1;
     }
-    Blocker::Nobody
+    if found == 0 {
+        return Blocker::Nobody;
+    }
+    Blocker::By(found)
 }
 
 // The transaction that refusal 8 names.

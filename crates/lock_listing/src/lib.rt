@@ -78,9 +78,9 @@ fn locks_length(e: u64, t: &[u64; 64]) -> usize
 fn modes_length(e: u64, t: &[u64; 64]) -> usize
     ensures { λ r. ⌜ (r ≡ length (modesText e (now (t .entry)))) × (r ≤ 93) ⌝ }
 {
-    let pushes = mode_length(e, t[PUSHES] == 1, b"push\n");
-    let looks = mode_length(e, t[LOOKS] == 1, b"look\n");
-    let takes = mode_length(e, t[TAKES] == 1, b"take\n");
+    let pushes = mode_length(e, t[PUSHES] != 0, b"push\n");
+    let looks = mode_length(e, t[LOOKS] != 0, b"look\n");
+    let takes = mode_length(e, t[TAKES] != 0, b"take\n");
     pushes + looks + takes
 }
 
@@ -163,9 +163,9 @@ fn put_modes(buf: &mut [u8], at: usize, e: u64, t: &[u64; 64]) -> usize
     requires { ⌜ at + length (modesText e (now t)) ≤ length (now buf) ⌝ }
     ensures { λ r. ⌜ Put (now (buf .entry)) at (modesText e (now (t .entry))) r (now (buf .exit)) ⌝ }
 {
-    let pushes = put_mode(buf, at, e, t[PUSHES] == 1, b"push\n");
-    let looks = put_mode(buf, pushes, e, t[LOOKS] == 1, b"look\n");
-    put_mode(buf, looks, e, t[TAKES] == 1, b"take\n")
+    let pushes = put_mode(buf, at, e, t[PUSHES] != 0, b"push\n");
+    let looks = put_mode(buf, pushes, e, t[LOOKS] != 0, b"look\n");
+    put_mode(buf, looks, e, t[TAKES] != 0, b"take\n")
 }
 
 // The lines of a transaction.

@@ -3,4 +3,5 @@ pub mod Words
 pub mod Sieve
 pub mod Standings
 pub mod Locks
+pub mod Modes
 pub mod Theorems

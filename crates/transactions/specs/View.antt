@@ -1,10 +1,10 @@
 -- The transaction that 64 words show. Words 0 to 23 are the keys of the cue locks, 24 to 39 the keys of the undo log's
 -- entries and 40 to 55 their kinds, oldest first; 56 is the standing; 57 to 59 are the queue's modes push, look and
--- take; 60 counts the cue locks, 61 the entries; 62 is the sieve, which has the bit k % 63 of each cue lock k and is no
+-- take, 0 where a mode is not held; 60 counts the cue locks, 61 the entries; 62 is the sieve, which has the bit k % 63 of each cue lock k and is no
 -- part of the transaction. Words past a count and 63 mean nothing. Assumes nothing.
 use Prim.Native.Nat.{ℕ, zero, suc, _+_, _/_, _%_, _^_, _≤_}
 use mathlib.Core.Path.{_≡_}
-use mathlib.Core.Bool.{cond}
+use mathlib.Core.Bool.{cond, not}
 use mathlib.Core.List.{List, [], _∷_, tail}
 use lib.Dec.{eqb}
 use lib.ListN.{length, take, getD, replicate}
@@ -32,9 +32,9 @@ entriesOf (suc n) w = entryAt n w ∷ entriesOf n w
 abbrev pub locksOf : List ℕ → Locks
 locksOf w = record {
   cues = take (getD w 60 0) w;
-  pushes = eqb (getD w 57 0) 1;
-  looks = eqb (getD w 58 0) 1;
-  takes = eqb (getD w 59 0) 1;
+  pushes = not (eqb (getD w 57 0) 0);
+  looks = not (eqb (getD w 58 0) 0);
+  takes = not (eqb (getD w 59 0) 0);
 }
 
 abbrev pub transactionOf : List ℕ → Transaction

@@ -5,8 +5,9 @@
 // opening and stepping establish: that the counts are in range, that the sieve has the bit of each cue lock, and
 // that there is room where the model's rows have found it.
 ghost use mathlib.Core.Path.{_≡_};
-ghost use mathlib.Core.Bool.{false};
+ghost use mathlib.Core.Bool.{false, not, _||_};
 ghost use Prim.Native.Nat.{_%_, _^_};
+ghost use lib.Dec.{eqb};
 ghost use lib.ListN.{length};
 ghost use lib.Bits.{bitOr};
 ghost use Rattle.tables.specs.Table.{memberOf};
@@ -48,7 +49,7 @@ pub const ENTRY_COUNT: usize = 61;
 // Where the sieve is: it has the bit `key % 63` of each cue lock, so that most locks are ruled out at a glance.
 const SIEVE: usize = 62;
 
-// What the standing's word says; a mode that is held is 1.
+// What the standing's word says; a mode that is held is 1, one that is not 0.
 const CLOSED: u64 = 0;
 
 const OPEN: u64 = 1;
@@ -124,6 +125,13 @@ pub fn holds_cue(t: &[u64; 64], key: u64) -> bool
     false
 }
 
+// Whether one of two modes is held, by their words and without a branch.
+fn any_held(a: u64, b: u64) -> bool
+    ensures { λ r. ⌜ r ≡ (not (eqb a 0) || not (eqb b 0)) ⌝ }
+{
+    (a | b) != 0
+}
+
 // Whether the lock is in conflict with one that this transaction holds.
 pub fn in_conflict(t: &[u64; 64], lock: Lock) -> bool
     requires { ⌜ WordsFit (now t) ⌝ }
@@ -131,9 +139,9 @@ pub fn in_conflict(t: &[u64; 64], lock: Lock) -> bool
 {
     match lock {
         Lock::Cue(key) => holds_cue(t, key),
-        Lock::Push => t[LOOKS] == 1 || t[TAKES] == 1,
-        Lock::Look => t[PUSHES] == 1 || t[TAKES] == 1,
-        Lock::Take => t[PUSHES] == 1 || (t[LOOKS] == 1 || t[TAKES] == 1),
+        Lock::Push => any_held(t[LOOKS], t[TAKES]),
+        Lock::Look => any_held(t[PUSHES], t[TAKES]),
+        Lock::Take => any_held(t[PUSHES], t[LOOKS] | t[TAKES]),
     }
 }
 

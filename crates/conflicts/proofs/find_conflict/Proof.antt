@@ -1,26 +1,40 @@
--- `conflicts::find_conflict` meets its contract: what is left to search decides. Assumes nothing.
-use Prim.Native.Nat.{_-_, _+_, _≤_, _<_}
-use mathlib.Core.Path.{_≡_, refl, sym, _∙_}
-use mathlib.Core.Logic.{⊎-elim}
+-- `conflicts::find_conflict` meets its contract: what it has found is the blocker from the present place on. Assumes
+-- nothing.
+use Prim.Native.Nat.{_+_, _-_, _≤_, _<_}
+use mathlib.Core.Path.{_≡_, sym, ap, _∙_}
 use native.Mathlib.Omega.{arith}
+use mathlib.Core.Option.{some}
 use lib.ListN.{length}
+use borrow.Author.Needs.{needs}
 use Rattle.transactions.specs.Code.{modelLock}
 use Rattle.store_words.proofs.Places.{fit-at}
-use Rattle.conflicts.proofs.Blocking.{blockerFrom, own, no-conflict, conflict, nobody}
+use Rattle.conflicts.proofs.Blocking.{
+  blockerFrom,
+  own,
+  conflict,
+  passed,
+  back,
+  nobody,
+  shown,
+  shows-nobody,
+  shows-some,
+}
 use Rattle.conflicts.proofs.find_conflict.Statement.{statement}
 use Rattle.conflicts.proofs.find_conflict.Tie as tie
 
 abbrev Inv-loop : tie.InvT-loop
-Inv-loop ts e lock i₀ i = (i ≤ 8) × (blockerFrom ts e (modelLock lock) i ≡ blockerFrom ts e (modelLock lock) 0)
+Inv-loop ts e lock found₀ i₀ found i = (i ≤ 8) × (shown found ≡ blockerFrom ts e (modelLock lock) i)
 
 abbrev μ-loop : tie.MeasureT-loop
-μ-loop ts e lock i₀ i = 8 - i
+μ-loop ts e lock found₀ i₀ found i = i
 
 loop-holds : tie.Need-loop-holds Inv-loop μ-loop
-loop-holds c = (omega arith, refl)
+loop-holds c =
+    let l = modelLock (c .args .lock) in
+    (omega arith, sym (nobody (c .args .ts .now) (c .args .e) l 8 (omega (arith, c .pre .eight))))
 
-add-number : tie.Need-add-number Inv-loop μ-loop
-add-number c = omega arith
+sub-i : tie.Need-sub-i Inv-loop μ-loop
+sub-i c = search needs
 
 mul-in-conflict : tie.Need-mul-in-conflict Inv-loop μ-loop
 mul-in-conflict c = omega arith
@@ -30,45 +44,61 @@ index-1-in-conflict c = omega arith
 
 in-conflict-requires : tie.Need-in-conflict-requires Inv-loop μ-loop
 in-conflict-requires c κs =
-    let s = c .before .before .before .before in
-    fit-at (s .args .ts .now) (s .pre) (c .before .before .before .loop .i) (omega arith)
-
-returns : tie.Need-returns Inv-loop μ-loop
-returns c =
-    let s = c .before .before .before .before .before .before in
-    let v = c .before .before .before .before .before .loop in
-    let ts = s .args .ts .now in
-    let h : v .i < length ts = omega (arith, s .pre .eight) in
-    let n = c .before .before .before .if1 .taken in
-    let m = sym (c .before .in-conflict .ensures) ∙ c .if2 .taken in
-    sym (sym (v .inv .1) ∙ conflict ts (s .args .e) (modelLock (s .args .lock)) (v .i) h n m)
-
-add-i : tie.Need-add-i Inv-loop μ-loop
-add-i c = omega arith
+    let o = c .before .before in
+    let s = o .before in
+    fit-at (s .args .ts .now) (s .pre) (o .loop .i - 1) (omega arith)
 
 loop-less : tie.Need-loop-less Inv-loop μ-loop
 loop-less c = omega arith
 
 loop-again : tie.Need-loop-again Inv-loop μ-loop
 loop-again c =
-    let s = c .before .before .before in
-    let v = c .before .before .loop in
-    let ts = s .args .ts .now in
+    let o = c .before .before .before .before .before in
+    let s = o .before in
+    let i = o .loop .i in
     let l = modelLock (s .args .lock) in
-    let h : v .i < length ts = omega (arith, s .pre .eight) in
-    let q : blockerFrom ts (s .args .e) l (v .i) ≡ blockerFrom ts (s .args .e) l (v .i + 1) =
-    ⊎-elim
-    (λ g. no-conflict ts (s .args .e) l (v .i) h (g .0 .taken) (sym (g .2 .ensures) ∙ g .3 .left))
-    (λ g. own ts (s .args .e) l (v .i) h (g .left))
-    (c .if1 .came) in
-    (omega arith, sym q ∙ v .inv .1)
+    let m = sym (c .before .before .in-conflict .ensures) ∙ c .before .if1 .taken in
+    let n : i - 1 + 1 ≡ i = omega arith in
+    let q = conflict (s .args .ts .now) (s .args .e) l (i - 1) (omega (arith, s .pre .eight))
+    (λ p. c .if2 .taken (omega arith)) m in
+    (omega arith, sym (shows-some i (λ z. omega arith)) ∙ sym (q ∙ ap some n))
+
+loop-less-2 : tie.Need-loop-less-2 Inv-loop μ-loop
+loop-less-2 c = omega arith
+
+loop-again-2 : tie.Need-loop-again-2 Inv-loop μ-loop
+loop-again-2 c =
+    let o = c .before .before .before .before .before in
+    let s = o .before in
+    let i = o .loop .i in
+    let l = modelLock (s .args .lock) in
+    let q = own (s .args .ts .now) (s .args .e) l (i - 1) (omega (arith, s .pre .eight)) (omega arith) in
+    (omega arith, back (s .args .ts .now) (s .args .e) l i _ (omega arith) q (o .loop .inv .1))
+
+loop-less-3 : tie.Need-loop-less-3 Inv-loop μ-loop
+loop-less-3 c = omega arith
+
+loop-again-3 : tie.Need-loop-again-3 Inv-loop μ-loop
+loop-again-3 c =
+    let o = c .before .before .before .before in
+    let s = o .before in
+    let i = o .loop .i in
+    let l = modelLock (s .args .lock) in
+    let m = sym (c .before .in-conflict .ensures) ∙ c .if1 .left in
+    let q = passed (s .args .ts .now) (s .args .e) l (i - 1) (omega (arith, s .pre .eight)) m in
+    (omega arith, back (s .args .ts .now) (s .args .e) l i _ (omega arith) q (o .loop .inv .1))
+
+returns : tie.Need-returns Inv-loop μ-loop
+returns c =
+    let o = c .before .before in
+    let z : o .loop .i ≡ 0 = omega arith in
+    shows-nobody (o .loop .found) (c .if3 .taken) ∙ rw z at (o .loop .inv .1)
 
 returns-2 : tie.Need-returns-2 Inv-loop μ-loop
 returns-2 c =
-    let s = c .before .before in
-    let v = c .before .loop in
-    sym (sym (v .inv .1)
-    ∙ nobody (s .args .ts .now) (s .args .e) (modelLock (s .args .lock)) (v .i) (omega (arith, s .pre .eight)))
+    let o = c .before .before in
+    let z : o .loop .i ≡ 0 = omega arith in
+    shows-some (o .loop .found) (c .if3 .left) ∙ rw z at (o .loop .inv .1)
 
 pub find-conflict-spec : {M : Type 1} → statement M
 find-conflict-spec =
@@ -77,12 +107,15 @@ find-conflict-spec =
     Inv-loop
     μ-loop
     loop-holds
-    add-number
+    sub-i
     mul-in-conflict
     index-1-in-conflict
     in-conflict-requires
-    returns
-    add-i
     loop-less
     loop-again
+    loop-less-2
+    loop-again-2
+    loop-less-3
+    loop-again-3
+    returns
     returns-2)

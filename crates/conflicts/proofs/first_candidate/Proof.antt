@@ -9,7 +9,7 @@ use lib.ListN.{getD}
 use borrow.Author.Needs.{needs}
 use Rattle.boosting.specs.Locks.{cueLock}
 use Rattle.store_words.proofs.Places.{fit-at}
-use Rattle.conflicts.proofs.Blocking.{blockerFrom, own, passed, back, cue-conflict}
+use Rattle.conflicts.proofs.Blocking.{blockerFrom, passed, back, cue-conflict}
 use Rattle.conflicts.proofs.first_candidate.Statement.{statement}
 use Rattle.conflicts.proofs.first_candidate.Tie as tie
 
@@ -38,9 +38,6 @@ may-hold-requires c κs =
     let s = o .before in
     fit-at (s .args .ts .now) (s .pre) (o .loop .i - 1) (omega arith)
 
-add-if2 : tie.Need-add-if2 Inv-loop μ-loop
-add-if2 c = omega arith
-
 loop-less : tie.Need-loop-less Inv-loop μ-loop
 loop-less c = omega arith
 
@@ -52,18 +49,6 @@ loop-less-2 c = omega arith
 
 loop-again-2 : tie.Need-loop-again-2 Inv-loop μ-loop
 loop-again-2 c =
-    let o = c .before .before .before .before .before in
-    let s = o .before in
-    let i = o .loop .i in
-    let k = cueLock (s .args .key) in
-    let q = own (s .args .ts .now) (s .args .e) k (i - 1) (omega (arith, s .pre .eight)) (c .if2 .left) in
-    (omega arith, o .loop .inv .1, back (s .args .ts .now) (s .args .e) k i _ (omega arith) q (o .loop .inv .2))
-
-loop-less-3 : tie.Need-loop-less-3 Inv-loop μ-loop
-loop-less-3 c = omega arith
-
-loop-again-3 : tie.Need-loop-again-3 Inv-loop μ-loop
-loop-again-3 c =
     let o = c .before .before .before .before in
     let s = o .before in
     let i = o .loop .i in
@@ -91,11 +76,8 @@ first-candidate-spec =
     mul-may-hold
     index-1-may-hold
     may-hold-requires
-    add-if2
     loop-less
     loop-again
     loop-less-2
     loop-again-2
-    loop-less-3
-    loop-again-3
     returns)
