@@ -1,4 +1,4 @@
--- Laws of a short number: the digits that the loop has passed, and the digits that stand there. Assumes nothing.
+-- Laws of a short number: the digits that have been passed, and the digits that stand there. Assumes nothing.
 use Prim.Native.Nat.{ℕ, suc, _+_, _*_, _-_, _^_, _≤_, _<_}
 use mathlib.Core.Path.{_≡_, refl, sym, ap, _∙_}
 use mathlib.Core.List.{List, [], _∷_}
@@ -51,6 +51,14 @@ passed-more s at most n i d p h l g e =
           ∙ (p .value (suc k) ∙ ap (λ (x : ℕ). valueFrom 0 (take x (drop at s))) c)));
     }
 
+-- the first digit alone
+pub passed-one : (s : List ℕ) (at most d : ℕ) → 0 < most → at + most ≤ length s → d ≤ 9 → getD s at 0 ≡ 48 + d
+    → Passed s at most d 1
+passed-one s at most d h l g e =
+    let z : at + 0 ≡ at = omega arith in
+    let v : 0 + d ≡ d = omega arith in
+    rw v at (passed-more s at most 0 0 d (passed-none s at most) h l g (rw z e))
+
 pub passed-all : (s : List ℕ) (at most n i : ℕ) → Passed s at most n i → at + most ≤ length s → most ≤ 9
     → (1 < i → getD s at 0 ≡ 48 → ⊥) → ShortFits s at most (record { value = n; digits = i })
 passed-all s at most n i p l g f =
@@ -70,7 +78,7 @@ passed-all s at most n i p l g f =
           ∙ v;
     }
 
--- a number that is refused for its leading zero
+-- no digit, or a number that is refused for its leading zero
 pub no-digits : (s : List ℕ) (at most : ℕ) → ShortFits s at most (record { value = 0; digits = 0 })
 no-digits s at most = record { few = omega arith; number = λ h. absurd (omega arith) }
 

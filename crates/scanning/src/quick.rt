@@ -88,6 +88,37 @@ fn short_number(text: &[u8], at: usize, most: usize) -> Short
     }
 }
 
+// A number of one digit or two. Which of the two cannot be guessed, so nothing branches on it.
+fn two_digits(text: &[u8], at: usize) -> Short
+    requires { ⌜ at + 2 ≤ length (now text) ⌝ }
+    ensures { λ r. ⌜ ShortFits (now (text .entry)) at 2 r ⌝ }
+{
+    let first = digit_at(text, at);
+    let second = digit_at(text, at + 1);
+    if 9 < first {
+        return Short {
+            value: 0,
+            digits: 0,
+        };
+    }
+    let mut value = first;
+    let mut digits = 1;
+    if second <= 9 {
+        value = first * 10 + second;
+        digits = 2;
+    }
+    if digits == 2 && first == 0 {
+        return Short {
+            value: 0,
+            digits: 0,
+        };
+    }
+    Short {
+        value: value,
+        digits: digits,
+    }
+}
+
 // Whether these three bytes stand at a place.
 fn three(text: &[u8], at: usize, a: u8, b: u8, c: u8) -> bool
     requires { ⌜ at + 3 ≤ length (now text) ⌝ }
@@ -248,12 +279,12 @@ fn quick_cue(text: &[u8], at: usize, word: Word, e: u64) -> Quick
     if time.digits == 0 || text[time_end] != COMMA {
         return Quick::Unsure;
     }
-    let module = short_number(text, time_end + 1, 2);
+    let module = two_digits(text, time_end + 1);
     let module_end = time_end + 1 + module.digits;
     if module.digits == 0 || text[module_end] != COMMA {
         return Quick::Unsure;
     }
-    let pin = short_number(text, module_end + 1, 2);
+    let pin = two_digits(text, module_end + 1);
     let end = module_end + 1 + pin.digits;
     if pin.digits == 0 || text[end] != LF {
         return Quick::Unsure;

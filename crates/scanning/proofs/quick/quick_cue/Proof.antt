@@ -25,11 +25,11 @@ shared-slice-read-if2 c = search needs
 returns : tie.Need-returns
 returns c = search needs
 
-add-short-number : tie.Need-add-short-number
-add-short-number c = search needs
+add-two-digits : tie.Need-add-two-digits
+add-two-digits c = search needs
 
-short-number-requires-2 : tie.Need-short-number-requires-2
-short-number-requires-2 c κs = search needs
+two-digits-requires : tie.Need-two-digits-requires
+two-digits-requires c κs = search needs
 
 add-module-end : tie.Need-add-module-end
 add-module-end c = search needs
@@ -43,11 +43,11 @@ shared-slice-read-if4 c = search needs
 returns-2 : tie.Need-returns-2
 returns-2 c = search needs
 
-add-short-number-2 : tie.Need-add-short-number-2
-add-short-number-2 c = search needs
+add-two-digits-2 : tie.Need-add-two-digits-2
+add-two-digits-2 c = search needs
 
-short-number-requires-3 : tie.Need-short-number-requires-3
-short-number-requires-3 c κs = search needs
+two-digits-requires-2 : tie.Need-two-digits-requires-2
+two-digits-requires-2 c κs = search needs
 
 add-end : tie.Need-add-end
 add-end c = search needs
@@ -69,8 +69,8 @@ cue-step-requires c κs =
     let a = n1 .before .before in
     let s = a .args .text .now in
     let t = nine-digits s _ 7 _ (n1 .short-number .ensures) (n2 .before .before .before .if1 .left) in
-    let m = nine-digits s _ 2 _ (n2 .short-number2 .ensures) (n3 .before .before .before .if3 .left) in
-    let p = nine-digits s _ 2 _ (n3 .short-number3 .ensures) (c .before .before .if5 .left) in (
+    let m = nine-digits s _ 2 _ (n2 .two-digits .ensures) (n3 .before .before .before .if3 .left) in
+    let p = nine-digits s _ 2 _ (n3 .two-digits2 .ensures) (c .before .before .if5 .left) in (
       a .pre .1,
       a .pre .2,
       record { transaction = omega arith; time = omega arith; «module» = omega arith; pin = omega arith },
@@ -87,8 +87,8 @@ returns-4 c =
     let a = n1 .before .before .args in
     let s = a .text .now in
     let t = n1 .short-number .result in
-    let m = n2 .short-number2 .result in
-    let p = n3 .short-number3 .result in
+    let m = n2 .two-digits .result in
+    let p = n3 .two-digits2 .result in
     let time = a .at in
     let «module» = time + t .digits + 1 in
     let pin = «module» + m .digits + 1 in
@@ -99,10 +99,10 @@ returns-4 c =
     let line = withModule ++ digitsOf (p .value) in
     field-earlier word s time 7 44 t _ (omega arith) (n1 .short-number .ensures) (l1 .before .before .if1 .left)
     (is-byte _ _ (l1 .if2 .left))
-    (field-earlier withTime s «module» 2 44 m _ (omega arith) (n2 .short-number2 .ensures)
+    (field-earlier withTime s «module» 2 44 m _ (omega arith) (n2 .two-digits .ensures)
     (l2 .before .before .if3 .left)
     (is-byte _ _ (l2 .if4 .left))
-    (number-earlier withModule s pin 2 p _ (omega arith) (n3 .short-number3 .ensures) (l3 .before .before .if5 .left)
+    (number-earlier withModule s pin 2 p _ (omega arith) (n3 .two-digits2 .ensures) (l3 .before .before .if5 .left)
     (ended line s _ end (call-line (wordText (a .word)) (a .e) _ _ (c .cue-step .ensures)) (omega arith)
     (is-byte _ _ (l3 .if6 .left)))))
 
@@ -114,14 +114,14 @@ quick-cue-spec =
     add-time-end
     shared-slice-read-if2
     returns
-    add-short-number
-    short-number-requires-2
+    add-two-digits
+    two-digits-requires
     add-module-end
     add-module-end-2
     shared-slice-read-if4
     returns-2
-    add-short-number-2
-    short-number-requires-3
+    add-two-digits-2
+    two-digits-requires-2
     add-end
     add-end-2
     shared-slice-read-if6
