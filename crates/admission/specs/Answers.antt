@@ -34,7 +34,10 @@ closedRows a = cond (isBegin a) none (some NotBegun)
 abbrev pub abortingRows : Action → Option Refusal
 abortingRows a = cond (isBegin a) (some AlreadyBegun) (cond (isRollBack a) none (some Aborting))
 
--- those of an open one
+-- those of an open one for a step that is no call, and for any
+abbrev pub openStepRows : Action → Option Refusal
+openStepRows a = cond (isBegin a) (some AlreadyBegun) (cond (isRollBack a) (some NotAborting) none)
+
 abbrev pub openRows : Store → ℕ → Action → List (Option Refusal)
 openRows d e a =
     when (isBegin a) AlreadyBegun

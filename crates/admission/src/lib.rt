@@ -35,6 +35,7 @@ ghost use Rattle.store_words.specs.Words.{
 ghost use Rattle.admission.specs.Answers.{
   modelAdmission,
   closedRows,
+  openStepRows,
   abortingRows,
   openRows,
   roomRows,
@@ -174,6 +175,19 @@ fn aborting_refusal(action: Action) -> Admission
     }
 }
 
+// The rows of an open transaction for a step that is no call.
+fn open_step_refusal(action: Action) -> Admission
+    ensures { λ r. ⌜ modelAdmission r ≡ openStepRows (modelAction action) ⌝ }
+{
+    match action {
+        Action::Begin => Admission::Refused(Refusal::AlreadyBegun),
+        Action::Commit => Admission::Accepted,
+        Action::Abort => Admission::Accepted,
+        Action::RollBack => Admission::Refused(Refusal::NotAborting),
+        Action::OnObject(_, _) => Admission::Accepted,
+    }
+}
+
 // The rows of an open transaction.
 fn open_refusal(
     script: &[u64; 257],
@@ -187,18 +201,13 @@ fn open_refusal(
         ≡ firstMet
         (openRows (storeOf (now (script .entry)) (now (queue .entry)) (now (ts .entry))) e (modelAction action)) ⌝ }
 {
-    match action {
-        Action::Begin => Admission::Refused(Refusal::AlreadyBegun),
-        Action::Commit => Admission::Accepted,
-        Action::Abort => Admission::Accepted,
-        Action::RollBack => Admission::Refused(Refusal::NotAborting),
-        Action::OnObject(in_range, call) => {
-            if !in_range {
-                return Admission::Refused(Refusal::CueOutOfRange);
-            }
-            call_refusal(script, queue, ts, e, call)
-        }
+    let Action::OnObject(in_range, call) = action else {
+        return open_step_refusal(action);
+    };
+    if !in_range {
+        return Admission::Refused(Refusal::CueOutOfRange);
     }
+    call_refusal(script, queue, ts, e, call)
 }
 
 // The first row that turns the request away: row 2 by the number, the others by how the transaction stands.
@@ -219,9 +228,11 @@ pub fn refusal_of(
     }
     let n = e as usize;
     let standing = transactions::standing_of(&ts[n - 1]);
-    match standing {
-        Standing::Closed => closed_refusal(action),
-        Standing::Open => open_refusal(script, queue, ts, n, action),
-        Standing::Aborting => aborting_refusal(action),
+    if let Standing::Open = standing {
+        return open_refusal(script, queue, ts, n, action);
     }
+    if let Standing::Closed = standing {
+        return closed_refusal(action);
+    }
+    aborting_refusal(action)
 }

@@ -94,10 +94,8 @@ pub fn find_blocker(ts: &[[u64; 64]; 8], e: usize, lock: Lock) -> Blocker
     requires { ⌜ TransactionsFit (now ts) ⌝ }
     ensures { λ r. ⌜ modelBlocker r ≡ blocker e (modelLock lock) 1 (map transactionOf (now (ts .entry))) ⌝ }
 {
-    match lock {
-        Lock::Cue(key) => find_holder(ts, e, key),
-        Lock::Push => find_conflict(ts, e, lock),
-        Lock::Look => find_conflict(ts, e, lock),
-        Lock::Take => find_conflict(ts, e, lock),
+    if let Lock::Cue(key) = lock {
+        return find_holder(ts, e, key);
     }
+    find_conflict(ts, e, lock)
 }

@@ -8,6 +8,8 @@ use borrow.Author.Tests.{ltb-true, ltb-false}
 use Rattle.transactions.specs.Code.{modelStanding}
 use Rattle.store_words.specs.Words.{storeOf}
 use Rattle.store_words.specs.Requests.{modelAction}
+use Rattle.transactions.specs.declared.Standing.the-variants.{Aborting}
+use Rattle.admission.proofs.Others.{neither}
 use Rattle.admission.proofs.Rows.{
   valid-low,
   valid-high,
@@ -42,20 +44,8 @@ standing-of-requires c κs = search needs
 enum-told : tie.Need-enum-told
 enum-told c = search needs
 
-closed-refusal-requires : tie.Need-closed-refusal-requires
-closed-refusal-requires c κs = search needs
-
-enum-told-2 : tie.Need-enum-told-2
-enum-told-2 c = search needs
-
 open-refusal-requires : tie.Need-open-refusal-requires
 open-refusal-requires c κs = search needs
-
-enum-told-3 : tie.Need-enum-told-3
-enum-told-3 c = search needs
-
-aborting-refusal-requires : tie.Need-aborting-refusal-requires
-aborting-refusal-requires c κs = search needs
 
 returns-2 : tie.Need-returns-2
 returns-2 c =
@@ -65,28 +55,39 @@ returns-2 c =
     let lo : 1 ≤ a .e = omega (arith, p .before .before .before .if1 .left) in
     let hi = ltb-false 8 (a .e) (p .before .before .if2 .left) in
     let q = ap modelStanding (sym (c .before .enum-told .given .1)) ∙ p .standing-of .ensures in
-    when-closed (a .script .now) (a .queue .now) (a .ts .now) (a .e) (modelAction (a .action)) lo hi q
-    (c .closed-refusal .ensures)
+    when-open (a .script .now) (a .queue .now) (a .ts .now) (a .e) (modelAction (a .action)) lo hi q
+    (c .open-refusal .ensures)
+
+enum-told-2 : tie.Need-enum-told-2
+enum-told-2 c = search needs
+
+closed-refusal-requires : tie.Need-closed-refusal-requires
+closed-refusal-requires c κs = search needs
 
 returns-3 : tie.Need-returns-3
 returns-3 c =
-    let p = c .before .before .before in
+    let p = c .before .before .before .before in
     let s = p .before .before .before .before in
     let a = s .args in
     let lo : 1 ≤ a .e = omega (arith, p .before .before .before .if1 .left) in
     let hi = ltb-false 8 (a .e) (p .before .before .if2 .left) in
     let q = ap modelStanding (sym (c .before .enum-told2 .given .1)) ∙ p .standing-of .ensures in
-    when-open (a .script .now) (a .queue .now) (a .ts .now) (a .e) (modelAction (a .action)) lo hi q
-    (c .open-refusal .ensures)
+    when-closed (a .script .now) (a .queue .now) (a .ts .now) (a .e) (modelAction (a .action)) lo hi q
+    (c .closed-refusal .ensures)
+
+aborting-refusal-requires : tie.Need-aborting-refusal-requires
+aborting-refusal-requires c κs = search needs
 
 returns-4 : tie.Need-returns-4
 returns-4 c =
-    let p = c .before .before .before in
+    let k = c .before in
+    let p = k .before .before in
     let s = p .before .before .before .before in
     let a = s .args in
     let lo : 1 ≤ a .e = omega (arith, p .before .before .before .if1 .left) in
     let hi = ltb-false 8 (a .e) (p .before .before .if2 .left) in
-    let q = ap modelStanding (sym (c .before .enum-told3 .given .1)) ∙ p .standing-of .ensures in
+    let n = neither (p .standing-of .result) (k .before .match .keys2) (k .match2 .keys2) in
+    let q = ap modelStanding (sym n) ∙ p .standing-of .ensures in
     when-aborting (a .script .now) (a .queue .now) (a .ts .now) (a .e) (modelAction (a .action)) lo hi q
     (c .aborting-refusal .ensures)
 
@@ -100,11 +101,10 @@ refusal-of-spec =
     index-1-standing-of
     standing-of-requires
     enum-told
-    closed-refusal-requires
-    enum-told-2
     open-refusal-requires
-    enum-told-3
-    aborting-refusal-requires
     returns-2
+    enum-told-2
+    closed-refusal-requires
     returns-3
+    aborting-refusal-requires
     returns-4)
