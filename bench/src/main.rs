@@ -13,6 +13,8 @@ use std::time::Instant;
 
 const FORMAT_ROUNDS: usize = 501;
 const DESK_ROUNDS: usize = 501;
+const TURN_ROUNDS: usize = 41;
+const TURN_INPUTS: usize = 24;
 const STAMP_ROUNDS: usize = 21;
 const STAMP_BYTES: usize = 64 << 20;
 
@@ -37,14 +39,27 @@ fn main() {
 
     println!("\n| the desk, 65,536 bytes | steps | waiting | plain Rust | Lizkorpe | Lizkorpe / Rust | Lizkorpe |");
     println!("|---|--:|--:|--:|--:|--:|--:|");
-    for (name, workload) in [
-        ("many different cues", Workload::ManyCues),
-        ("few cues and much waiting", Workload::Waiting),
-        ("a nearly full script", Workload::NearlyFull),
-    ] {
+    for (name, workload) in WORKLOADS {
         desk_row(name, &steps::full(&mut random, workload, LONGEST_TEXT));
     }
+
+    println!(
+        "\nA round goes through {TURN_INPUTS} different inputs of a kind ({TURN_ROUNDS} rounds), so that the processor"
+    );
+    println!("cannot learn the branches of one input by heart.\n");
+    println!("| the desk, {TURN_INPUTS} inputs in turn | plain Rust | Lizkorpe | Lizkorpe / Rust |");
+    println!("|---|--:|--:|--:|");
+    for (name, workload) in WORKLOADS {
+        let inputs: Vec<_> = (0..TURN_INPUTS).map(|_| steps::full(&mut random, workload, LONGEST_TEXT)).collect();
+        turns_row(name, &inputs);
+    }
 }
+
+const WORKLOADS: [(&str, Workload); 3] = [
+    ("many different cues", Workload::ManyCues),
+    ("few cues and much waiting", Workload::Waiting),
+    ("a nearly full script", Workload::NearlyFull),
+];
 
 /// A row of the desk's table, in nanoseconds for each step; and how many of the steps were told to wait.
 fn desk_row(workload: &str, input: &[u8]) {
@@ -70,6 +85,37 @@ fn desk_row(workload: &str, input: &[u8]) {
         "| {workload} | {steps} | {share:.0} % | {rust} | {ours} | {:.2} | {speed:.1} M steps/s |",
         proved / plain
     );
+}
+
+/// A row of the second table: all inputs one after the other, in nanoseconds for each step.
+fn turns_row(workload: &str, inputs: &[Vec<u8>]) {
+    let mut buffer = vec![0; DESK_ROOM];
+    let mut output = Vec::with_capacity(DESK_ROOM);
+    let mut steps = 0;
+    for input in inputs {
+        output.clear();
+        session::append(input, &mut output);
+        let length = library::desk(input, &mut buffer);
+        assert_eq!(length, output.len() as u64, "{workload}: the lengths differ");
+        assert_eq!(buffer[..output.len()], output, "{workload}: the bytes differ");
+        let (_, list) = session::read(input).expect("the start is accepted");
+        steps += script::lines(list).count();
+    }
+
+    let plain = || {
+        for input in inputs {
+            output.clear();
+            session::append(black_box(input), black_box(&mut output));
+        }
+    };
+    let proved = || {
+        for input in inputs {
+            black_box(library::desk(black_box(input), black_box(&mut buffer)));
+        }
+    };
+    let (plain, proved) = medians(TURN_ROUNDS, plain, proved);
+    let [rust, ours] = [plain, proved].map(|seconds| format!("{:.1} ns/step", seconds * 1e9 / steps as f64));
+    println!("| {workload} | {rust} | {ours} | {:.2} |", proved / plain);
 }
 
 /// A row of the table, in nanoseconds for each line of the text.

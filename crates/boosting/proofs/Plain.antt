@@ -5,10 +5,10 @@ use mathlib.Core.Bool.{Bool, true, false, cond, not, _&&_}
 use mathlib.Core.List.{List, [], _∷_}
 use native.Mathlib.Omega.{arith}
 use lib.Dec.{eqb, ltb}
-use borrow.Author.Tests.{eqb-true, eqb-false, ne-eqb}
+use borrow.Author.Tests.{eqb-true, eqb-false, eq-eqb, ne-eqb}
 use Rattle.tables.specs.Table.{Ordered, memberOf, insertOf, deleteOf}
 use Rattle.tables.proofs.Laws.{split, member-once, member-delete-other, member-from}
-use Rattle.boosting.specs.Object.{isCue, least, effect, reply}
+use Rattle.boosting.specs.Object.{isEmpty, isCue, least, effect, reply}
 use Rattle.boosting.specs.Theorems.{countOf, PlainMeaning, CallsArePlain}
 use Rattle.boosting.proofs.Sorted.{member-delete-self}
 
@@ -83,6 +83,15 @@ least-is k (x ∷ q) e j o m =
     split (eqb x j) (λ t. omega (arith, eqb-true x j t))
     (λ t. omega (arith, member-from (x + 0) j q (o .0) (rw t at m)))
 
+least-in : (k : ℕ) (q : List ℕ) → least q ≡ isCue k → memberOf k q ≡ true
+unfolding memberOf
+least-in k [] e = cc
+least-in k (x ∷ q) e = let p : x ≡ k = cc in rw (eq-eqb x k p)
+
+none-least : (q : List ℕ) → least q ≡ isEmpty → q ≡ []
+none-least [] e = refl
+none-least (x ∷ q) e = cc
+
 pub calls-are-plain : CallsArePlain
 unfolding effect reply
 calls-are-plain s r o = record {
@@ -90,7 +99,9 @@ calls-are-plain s r o = record {
   remove-set = λ j k. remove-member j k (s .script) r;
   push-one-more = λ j k. push-count j k (s .queue);
   take-one = λ j k q e. rw e (take-count j k q);
+  least-stands = λ k e. least-in k (s .queue) e;
   least-found = λ j k e m. least-is k (s .queue) e j o m;
+  empty-exactly = (none-least (s .queue), λ e. rw e);
   min-is-take = refl;
   looks-change-nothing = λ k. (refl, refl);
 }

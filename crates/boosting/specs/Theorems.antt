@@ -19,7 +19,21 @@ use Rattle.tables.specs.Table.{Ordered, memberOf, insertOf, deleteOf, putOnceOf
 use Rattle.scripts.specs.declared.reading.Outcome.the-variants.{Accepted}
 use Rattle.scripts.specs.Script.{scriptOf}
 use Rattle.scripts.specs.Theorems.{SoundScript}
-use Rattle.boosting.specs.Object.{Call, add, remove, has, push, min, take, isCue, State, effect, reply, answerOf}
+use Rattle.boosting.specs.Object.{
+  Call,
+  add,
+  remove,
+  has,
+  push,
+  min,
+  take,
+  isEmpty,
+  isCue,
+  State,
+  effect,
+  reply,
+  answerOf,
+}
 use Rattle.boosting.specs.Undo.{Entry, entryOf, inverse, noted}
 use Rattle.boosting.specs.Locks.{Lock, lockOf, hold, holds, conflicts}
 use Rattle.boosting.specs.Store.{
@@ -178,7 +192,9 @@ pub record PlainCalls (s : State) : Type 0 where
       (j k : ℕ) (q : List ℕ) → s .queue ≡ k ∷ q
       → countOf j (s .queue)
       ≡ cond (eqb k j) (suc (countOf j (effect take s .queue))) (countOf j (effect take s .queue))
+  pub least-stands : (k : ℕ) → reply take s ≡ isCue k → memberOf k (s .queue) ≡ true
   pub least-found : (j k : ℕ) → reply take s ≡ isCue k → memberOf j (s .queue) ≡ true → k ≤ j
+  pub empty-exactly : (reply take s ≡ isEmpty) ↔ (s .queue ≡ [])
   pub min-is-take : reply min s ≡ reply take s
   pub looks-change-nothing : (k : ℕ) → (effect (has k) s ≡ s) × (effect min s ≡ s)
 

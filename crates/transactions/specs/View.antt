@@ -4,7 +4,7 @@
 -- part of the transaction. Words past a count and 63 mean nothing. Assumes nothing.
 use Prim.Native.Nat.{ℕ, zero, suc, _+_, _/_, _%_, _^_, _≤_}
 use mathlib.Core.Path.{_≡_}
-use mathlib.Core.Bool.{cond, not}
+use mathlib.Core.Bool.{Bool, cond, not}
 use mathlib.Core.List.{List, [], _∷_, tail}
 use lib.Dec.{eqb}
 use lib.ListN.{length, take, getD, replicate}
@@ -43,6 +43,10 @@ transactionOf w = record {
   locks = locksOf w;
   log = entriesOf (getD w 61 0) w;
 }
+
+-- whether the sieve's word lets a key pass: it has the key's bit
+abbrev pub passes : List ℕ → ℕ → Bool
+passes w k = eqb (getD w 62 0 / 2 ^ (k % 63) % 2) 1
 
 -- a sieve has the bit of this key, and those of all these keys
 abbrev pub HasBit : ℕ → ℕ → Type 0

@@ -15,7 +15,7 @@ ghost use Rattle.boosting.specs.Locks.{cueLock, conflicts};
 ghost use Rattle.boosting.specs.Store.{closedTransaction, openTransaction};
 ghost use Rattle.boosting.specs.Room.{locksFull};
 ghost use Rattle.boosting.specs.Step.{aborted};
-ghost use Rattle.transactions.specs.View.{WordsFit, Made, transactionOf, withLock};
+ghost use Rattle.transactions.specs.View.{WordsFit, Made, transactionOf, passes, withLock};
 ghost use Rattle.transactions.specs.Code.{modelLock, modelStanding};
 
 // A lock on the cue with this key, or one of the queue's modes.
@@ -98,10 +98,11 @@ pub fn abort(t: &mut [u64; 64])
     t[STANDING] = ABORTING;
 }
 
-// Whether a cue lock with this key can be held: the sieve has the key's bit.
+// Whether a cue lock with this key can be held: the sieve has the key's bit. Where it has not, the lock is not held.
 pub fn may_hold(t: &[u64; 64], key: u64) -> bool
     requires { ⌜ WordsFit (now t) ⌝ }
-    ensures { λ r. ⌜ (r ≡ false → memberOf key (transactionOf (now (t .entry)) .locks .cues) ≡ false) ⌝ }
+    ensures { λ r. ⌜ (r ≡ passes (now (t .entry)) key)
+        × (r ≡ false → memberOf key (transactionOf (now (t .entry)) .locks .cues) ≡ false) ⌝ }
 {
     (t[SIEVE] >> (key % 63)) % 2 == 1
 }

@@ -130,7 +130,7 @@ search-again c =
     (⊎-elim
     (λ g.
     no-conflict ts (s .args .e) (cueLock key) i h (g .0 .taken)
-    (cue-conflict key w false (g .2 .ensures (g .3 .left))))
+    (cue-conflict key w false (g .2 .ensures .1 (g .3 .left))))
     (λ g. own ts (s .args .e) (cueLock key) i h (g .left)))
     (c .if2 .came) in
     (omega arith, sym q ∙ v .inv .1)

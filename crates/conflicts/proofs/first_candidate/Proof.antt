@@ -55,7 +55,7 @@ loop-again-2 c =
     let key = s .args .key in
     let k = cueLock key in
     let w = getD (s .args .ts .now) (i - 1) [] in
-    let n = cue-conflict key w false (c .before .may-hold .ensures (c .if1 .left)) in
+    let n = cue-conflict key w false (c .before .may-hold .ensures .1 (c .if1 .left)) in
     let q = passed (s .args .ts .now) (s .args .e) k (i - 1) (omega (arith, s .pre .eight)) n in
     (omega arith, o .loop .inv .1, back (s .args .ts .now) (s .args .e) k i _ (omega arith) q (o .loop .inv .2))
 

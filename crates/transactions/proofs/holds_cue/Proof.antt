@@ -20,7 +20,7 @@ may-hold-requires : tie.Need-may-hold-requires Inv-loop μ-loop
 may-hold-requires c κs = search needs
 
 returns : tie.Need-returns Inv-loop μ-loop
-returns c = let m = c .before .may-hold in sym (m .ensures (not-true (m .result) (c .if1 .taken)))
+returns c = let m = c .before .may-hold in sym (m .ensures .1 (not-true (m .result) (c .if1 .taken)))
 
 element-copy-out-n : tie.Need-element-copy-out-n Inv-loop μ-loop
 element-copy-out-n c = search needs
