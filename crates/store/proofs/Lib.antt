@@ -2,4 +2,3 @@
 pub mod Opened
 pub mod Requests
 pub mod Steps
-pub mod Written

@@ -6,13 +6,12 @@
 // and every step keeps (`StoreFits`, or its part), and none asks anything of the bytes of a text or a line.
 mod opening;
 mod stepping;
-mod texts;
 
 pub use opening::open;
 pub use recovery::recover;
 pub use stepping::execute;
 pub use stepping::step;
-pub use texts::queue_length;
-pub use texts::script_length;
-pub use texts::write_queue;
-pub use texts::write_script;
+pub use store_texts::queue_length;
+pub use store_texts::script_length;
+pub use store_texts::write_queue;
+pub use store_texts::write_script;

@@ -1,4 +1,7 @@
 // The cue lines of the script and of the queue, in rising order, written at a place of a lent buffer.
+//
+// The words are read where they stand (`store_words`). A `requires` asks for what opening and stepping establish of
+// them, and for nothing of the buffer: a text is written whole or not at all.
 ghost use mathlib.Core.Path.{_≡_};
 ghost use lib.ListN.{length};
 ghost use Rattle.buffers.specs.Written.{writtenAt};

@@ -1,10 +1,10 @@
--- `store::texts::write_queue` meets its contract. Assumes nothing.
+-- `store_texts::write_queue` meets its contract. Assumes nothing.
 use borrow.Author.Needs.{needs}
 use mathlib.Core.Path.{ap, _∙_}
 use Rattle.buffers.specs.Written.{writtenAt}
-use Rattle.store.proofs.Written as laws
-use Rattle.store.proofs.texts.write_queue.Statement.{statement}
-use Rattle.store.proofs.texts.write_queue.Tie as tie
+use Rattle.store_texts.proofs.Written as laws
+use Rattle.store_texts.proofs.write_queue.Statement.{statement}
+use Rattle.store_texts.proofs.write_queue.Tie as tie
 
 element-copy-out-n : tie.Need-element-copy-out-n
 element-copy-out-n c = search needs

@@ -1,10 +1,10 @@
--- `store::texts::queue_length` meets its contract. Assumes nothing.
+-- `store_texts::queue_length` meets its contract. Assumes nothing.
 use borrow.Author.Needs.{needs}
 use mathlib.Core.Path.{ap, _∙_}
 use lib.ListN.{length}
-use Rattle.store.proofs.Written as laws
-use Rattle.store.proofs.texts.queue_length.Statement.{statement}
-use Rattle.store.proofs.texts.queue_length.Tie as tie
+use Rattle.store_texts.proofs.Written as laws
+use Rattle.store_texts.proofs.queue_length.Statement.{statement}
+use Rattle.store_texts.proofs.queue_length.Tie as tie
 
 element-copy-out-n : tie.Need-element-copy-out-n
 element-copy-out-n c = search needs
