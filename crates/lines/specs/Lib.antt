@@ -2,5 +2,4 @@
 pub mod Ascii
 pub mod Line
 pub mod Lines
-pub mod Numbered
 pub mod Theorems

@@ -1,23 +1,17 @@
 // Lines of a text, at every length. A line ends with one LF, which is not part of it; the last LF may be missing, and
 // a closing LF adds no empty line.
 //
-// Here a place in the text is a plain number. `reader` keeps the text and its place in one record, and `numbered` finds
-// a line of two texts by its number. No public function has a `requires`, and the crate assumes nothing of its own.
-mod numbered;
-mod reader;
-
-pub use numbered::numbered_line;
-pub use reader::LineReader;
-pub use reader::first_line;
-pub use reader::line_reader;
-pub use reader::take_line;
+// Here a place in the text is a plain number. `line_reader` keeps the text and its place in one record, and
+// `numbered_lines` finds a line of two texts by its number. No public function has a `requires`, and the crate assumes
+// nothing of its own.
 ghost use mathlib.Core.Path.{_≡_};
 ghost use Prim.Native.Nat.{_+_, _≤_, max};
 ghost use lib.ListN.{length, drop};
 ghost use Rattle.lines.specs.Lines.{upTo};
-ghost use Rattle.lines.specs.Line.{lineAt, placeAfter};
+ghost use Rattle.lines.specs.Line.{lineAt};
 
-const LF: u8 = 10;
+// What ends a line.
+pub const LF: u8 = 10;
 
 // What reading a line at a place finds.
 pub enum Line {
@@ -59,19 +53,5 @@ pub fn next_line(text: &[u8], at: usize) -> Line
         }
     } else {
         Line::End
-    }
-}
-
-// The place to read on from: behind the line, or where it was when there is none.
-fn place_after(line: Line, at: usize) -> usize
-    ensures { λ r. ⌜ r ≡ placeAfter line at ⌝ }
-{
-    match line {
-        Line::At {
-            start: _,
-            end: _,
-            next,
-        } => next,
-        Line::End => at,
     }
 }

@@ -1,4 +1,4 @@
--- `lines::reader::take_line` meets its contract: a walk of its MIR, by hand. All that it knows of `next_line` and
+-- `line_reader::take_line` meets its contract: a walk of its MIR, by hand. All that it knows of `next_line` and
 -- `place_after` is that each meets its contract. The borrow of the record is opened; `next_line` is called on its text
 -- and place, `place_after` on the line and the place; the new place is stored, and the borrow is closed.
 -- Assumes nothing.
@@ -48,25 +48,26 @@ use denote.Triple.Spec.{Meets, tripleOf}
 use denote.Triple.Table.{entered, cited}
 use denote.Triple.Walked.{says, Stays, stay-ref, walkOf, goes-ref, Walks, ends-at, walked, walk-meets}
 use denote.Triple.Clauses.{ensured, lasts}
-use Rattle.lines.specs.Line.{lineAt, placeAfter}
-use Rattle.lines.specs.declared.reader.LineReader.{LineReader}
+use Rattle.lines.specs.Line.{lineAt}
+use Rattle.line_reader.specs.Reader.{placeAfter}
+use Rattle.line_reader.specs.declared.LineReader.{LineReader}
 use Rattle.lines.specs.declared.Line.{Line}
 use Rattle.lines.proofs.Line as S
 use Rattle.lines.proofs.Line.Laws as S′
-use Rattle.lines.proofs.reader.LineReader as T
-use Rattle.lines.proofs.reader.LineReader.Laws as T′
+use Rattle.line_reader.proofs.LineReader as T
+use Rattle.line_reader.proofs.LineReader.Laws as T′
 use Rattle.lines.proofs.next_line as line
 use Rattle.lines.proofs.next_line.Symbol as line-def
 use Rattle.lines.proofs.next_line.Symbol.{name as #next-line}
 use Rattle.lines.proofs.next_line.Met as line-thm
-use Rattle.lines.proofs.place_after as place
-use Rattle.lines.proofs.place_after.Symbol as place-def
-use Rattle.lines.proofs.place_after.Symbol.{name as #place-after}
-use Rattle.lines.proofs.place_after.Met as place-thm
-use Rattle.lines.proofs.reader.take_line.Key.{name as #take-line}
-use Rattle.lines.proofs.reader.take_line as take
-use Rattle.lines.proofs.reader.take_line.Statement as stated
-use Rattle.lines.proofs.reader.take_line.Code as code
+use Rattle.line_reader.proofs.place_after as place
+use Rattle.line_reader.proofs.place_after.Symbol as place-def
+use Rattle.line_reader.proofs.place_after.Symbol.{name as #place-after}
+use Rattle.line_reader.proofs.place_after.Met as place-thm
+use Rattle.line_reader.proofs.take_line.Key.{name as #take-line}
+use Rattle.line_reader.proofs.take_line as take
+use Rattle.line_reader.proofs.take_line.Statement as stated
+use Rattle.line_reader.proofs.take_line.Code as code
 
 -- 'a, and the record's type at it
 abbrev α : Lft → NamedLft
@@ -327,4 +328,4 @@ take-line-spec 𝓤 H 𝓜 𝓖 𝓡 =
     (cited 𝓤 H (NextLine 𝓤 H (𝓖 .A) (𝓜 .mem) (𝓡 .run)) 𝓜 𝓡 code.env #next-line line-def.routine
     code.calls-lines·next-line (line-thm.met 𝓤 H 𝓜 𝓖 𝓡))
     (cited 𝓤 H (PlaceAfter 𝓤 H (𝓖 .A) (𝓜 .mem) (𝓡 .run)) 𝓜 𝓡 code.env #place-after place-def.routine
-    code.calls-lines·place-after (place-thm.met 𝓤 H 𝓜 𝓖 𝓡)))
+    code.calls-line-reader·place-after (place-thm.met 𝓤 H 𝓜 𝓖 𝓡)))

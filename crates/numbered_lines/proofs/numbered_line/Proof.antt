@@ -1,12 +1,12 @@
--- `lines::numbered::numbered_line` meets its contract. Each part is cut where `seek_line` found the line, which lies
+-- `numbered_lines::numbered_line` meets its contract. Each part is cut where `seek_line` found the line, which lies
 -- within its text; the answers follow the cases of `numbered`.
 -- Assumes nothing.
 use mathlib.Core.Path.{sym, ap, _∙_}
-use Rattle.lines.specs.Numbered.{inStart, inSteps, numbered}
-use Rattle.lines.proofs.Seek.{found-within, numbered-more}
+use Rattle.numbered_lines.specs.Numbered.{inStart, inSteps, numbered}
+use Rattle.numbered_lines.proofs.Seek.{found-within, numbered-more}
 use borrow.Author.Needs.{needs}
-use Rattle.lines.proofs.numbered.numbered_line.Statement.{statement}
-use Rattle.lines.proofs.numbered.numbered_line.Tie as tie
+use Rattle.numbered_lines.proofs.numbered_line.Statement.{statement}
+use Rattle.numbered_lines.proofs.numbered_line.Tie as tie
 
 sub-result : tie.Need-sub-result
 sub-result c = search needs

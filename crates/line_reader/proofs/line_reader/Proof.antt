@@ -1,4 +1,4 @@
--- `lines::reader::line_reader` meets its contract: a walk of its MIR, by hand. The record is made of the slice passed
+-- `line_reader::line_reader` meets its contract: a walk of its MIR, by hand. The record is made of the slice passed
 -- and 0, in the result's local. A `&[u8]` is Copy, so what it owns is had twice: once for text at exit, and once inside
 -- the result, beside the facts of at.
 -- Assumes nothing.
@@ -37,13 +37,13 @@ use denote.Triple.Spec.{Meets, tripleOf}
 use denote.Triple.Table.{entered}
 use denote.Triple.Walked.{says, Stays, stay-none-slice, walkOf, goes-none-slice, Walks, ends-at, walked, walk-meets}
 use denote.Exit.{yes}
-use Rattle.lines.specs.declared.reader.LineReader.{LineReader}
-use Rattle.lines.proofs.reader.LineReader as T
-use Rattle.lines.proofs.reader.LineReader.Laws as T′
-use Rattle.lines.proofs.reader.line_reader.Key.{name as #line-reader}
-use Rattle.lines.proofs.reader.line_reader as new
-use Rattle.lines.proofs.reader.line_reader.Statement as stated
-use Rattle.lines.proofs.reader.line_reader.Code as code
+use Rattle.line_reader.specs.declared.LineReader.{LineReader}
+use Rattle.line_reader.proofs.LineReader as T
+use Rattle.line_reader.proofs.LineReader.Laws as T′
+use Rattle.line_reader.proofs.line_reader.Key.{name as #line-reader}
+use Rattle.line_reader.proofs.line_reader as new
+use Rattle.line_reader.proofs.line_reader.Statement as stated
+use Rattle.line_reader.proofs.line_reader.Code as code
 
 abbrev stayed : Stays (new.ended .signature .params) (new.ended .kept)
 stayed = (stay-none-slice (0 ∷ []) tt (plain (λ _. u8)) yes, tt)

@@ -7,11 +7,11 @@ use native.Mathlib.Numerals.{sub-one}
 use lib.ListN.{length, take, drop}
 use lib.Seq.{length-take-le}
 use denote.Ref.{RefT, now}
 use Rattle.lines.specs.Lines.{upTo, linesOf}
-use Rattle.lines.specs.Numbered.{seek, Within, inStart, numbered}
-use Rattle.lines.specs.declared.numbered.Search.{Search}
-use Rattle.lines.specs.declared.numbered.Search.the-variants.{Found, Missing}
+use Rattle.numbered_lines.specs.Numbered.{seek, Within, inStart, numbered}
+use Rattle.numbered_lines.specs.declared.Search.{Search}
+use Rattle.numbered_lines.specs.declared.Search.the-variants.{Found, Missing}
 use Rattle.lines.proofs.Laws.{up-le, lines-next, lines-end}
 
 line-length : (s : List ℕ) → length (take (upTo 10 s) s) ≡ upTo 10 s
 line-length s = length-take-le (upTo 10 s) s (up-le 10 s)

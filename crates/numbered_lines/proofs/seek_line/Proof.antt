@@ -1,4 +1,4 @@
--- `lines::numbered::seek_line` meets its contract. The loop's invariant: what is left to count from the place on finds
+-- `numbered_lines::seek_line` meets its contract. The loop's invariant: what is left to count from the place on finds
 -- what the whole count finds.
 -- Assumes nothing.
 use mathlib.Core.Path.{_≡_, refl, sym, ap, _∙_}
@@ -6,12 +6,12 @@ use Prim.Native.Nat.{ℕ, _+_, _-_, _≤_, _<_}
 use native.Mathlib.Omega.{arith}
 use lib.ListN.{length, drop}
 use borrow.Author.Needs.{needs}
 use Rattle.lines.specs.Lines.{linesOf}
-use Rattle.lines.specs.Numbered.{seek}
-use Rattle.lines.specs.declared.numbered.Search.the-variants.{Found}
-use Rattle.lines.proofs.Seek.{seek-zero, seek-more, seek-none}
-use Rattle.lines.proofs.numbered.seek_line.Statement.{statement}
-use Rattle.lines.proofs.numbered.seek_line.Tie as tie
+use Rattle.numbered_lines.specs.Numbered.{seek}
+use Rattle.numbered_lines.specs.declared.Search.the-variants.{Found}
+use Rattle.numbered_lines.proofs.Seek.{seek-zero, seek-more, seek-none}
+use Rattle.numbered_lines.proofs.seek_line.Statement.{statement}
+use Rattle.numbered_lines.proofs.seek_line.Tie as tie
 
 abbrev Inv-loop : tie.InvT-loop
 Inv-loop text k at₀ left₀ at left = seek at (linesOf (drop at text)) left ≡ seek 0 (linesOf text) k

@@ -4,9 +4,9 @@ use Prim.Native.Nat.{ℕ, zero, suc, _+_, _-_, _≤_}
 use mathlib.Core.List.{List, [], _∷_}
 use lib.ListN.{length, take, drop}
 use denote.Ref.{RefT, now}
 use Rattle.lines.specs.Lines.{linesOf}
-use Rattle.lines.specs.declared.numbered.Search.{Search}
-use Rattle.lines.specs.declared.numbered.Search.the-variants.{Found, Missing}
+use Rattle.numbered_lines.specs.declared.Search.{Search}
+use Rattle.numbered_lines.specs.declared.Search.the-variants.{Found, Missing}
 
 -- where line k lies, counted from 0, of lines of which the first starts at the place; or how many are left to count
 unfoldable pub seek : ℕ → List (List ℕ) → ℕ → Search

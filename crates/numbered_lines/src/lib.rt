@@ -1,9 +1,12 @@
 // The numbered line of two lent texts: a start script and a step list.
+//
+// Lines are counted as `lines` divides a text. The public function has no `requires`, and the crate assumes nothing of
+// its own.
 ghost use mathlib.Core.Path.{_≡_};
 ghost use Rattle.lines.specs.Lines.{linesOf};
-ghost use Rattle.lines.specs.Numbered.{seek, Within, numbered};
-use crate::LF;
-use crate::find_byte;
+ghost use Rattle.numbered_lines.specs.Numbered.{seek, Within, numbered};
+use lines::LF;
+use lines::find_byte;
 
 // What counting the lines of one text finds.
 enum Search {

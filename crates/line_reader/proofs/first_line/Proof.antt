@@ -1,4 +1,4 @@
--- `lines::reader::first_line` meets its contract: a walk of its MIR, by hand. All that it knows of `line_reader` and
+-- `line_reader::first_line` meets its contract: a walk of its MIR, by hand. All that it knows of `line_reader` and
 -- `take_line` is that each meets its contract. The reader is made in a local, lent for a lifetime that the walk makes
 -- within the text's (ν ∷ κ), and comes back once that has ended, so that its memory can be freed.
 -- Assumes nothing.
@@ -48,25 +48,26 @@ use denote.Triple.Walked.{says, Stays, stay-none-slice, walkOf, goes-none-slice,
 use denote.Triple.Clauses.{ensured, lasts}
 use denote.Exit.{yes}
 use borrow.Within.Token.{Rest, within-token, within-end}
-use Rattle.lines.specs.Line.{lineAt, Taken}
-use Rattle.lines.specs.declared.reader.LineReader.{LineReader}
+use Rattle.lines.specs.Line.{lineAt}
+use Rattle.line_reader.specs.Reader.{Taken}
+use Rattle.line_reader.specs.declared.LineReader.{LineReader}
 use Rattle.lines.specs.declared.Line.{Line}
-use Rattle.lines.proofs.reader.LineReader as T
-use Rattle.lines.proofs.reader.LineReader.Laws as T′
+use Rattle.line_reader.proofs.LineReader as T
+use Rattle.line_reader.proofs.LineReader.Laws as T′
 use Rattle.lines.proofs.Line as S
 use Rattle.lines.proofs.Line.Laws as S′
-use Rattle.lines.proofs.reader.line_reader as new
-use Rattle.lines.proofs.reader.line_reader.Symbol as new-def
-use Rattle.lines.proofs.reader.line_reader.Symbol.{name as #line-reader}
-use Rattle.lines.proofs.reader.line_reader.Met as new-thm
-use Rattle.lines.proofs.reader.take_line as take
-use Rattle.lines.proofs.reader.take_line.Symbol as take-def
-use Rattle.lines.proofs.reader.take_line.Symbol.{name as #take-line}
-use Rattle.lines.proofs.reader.take_line.Met as take-thm
-use Rattle.lines.proofs.reader.first_line.Key.{name as #first-line}
-use Rattle.lines.proofs.reader.first_line as first
-use Rattle.lines.proofs.reader.first_line.Statement as stated
-use Rattle.lines.proofs.reader.first_line.Code as code
+use Rattle.line_reader.proofs.line_reader as new
+use Rattle.line_reader.proofs.line_reader.Symbol as new-def
+use Rattle.line_reader.proofs.line_reader.Symbol.{name as #line-reader}
+use Rattle.line_reader.proofs.line_reader.Met as new-thm
+use Rattle.line_reader.proofs.take_line as take
+use Rattle.line_reader.proofs.take_line.Symbol as take-def
+use Rattle.line_reader.proofs.take_line.Symbol.{name as #take-line}
+use Rattle.line_reader.proofs.take_line.Met as take-thm
+use Rattle.line_reader.proofs.first_line.Key.{name as #first-line}
+use Rattle.line_reader.proofs.first_line as first
+use Rattle.line_reader.proofs.first_line.Statement as stated
+use Rattle.line_reader.proofs.first_line.Code as code
 
 abbrev stayed : Stays (first.ended .signature .params) (first.ended .kept)
 stayed = (stay-none-slice (0 ∷ []) tt (plain (λ _. u8)) yes, tt)
@@ -284,6 +285,6 @@ first-line-spec 𝓤 H 𝓜 𝓖 𝓡 =
     (tables 𝓤 H 𝓜 𝓡 code.env .C) (tables 𝓤 H 𝓜 𝓡 code.env .Λ) #first-line code.function (code.unfolded 𝓤 H 𝓜 𝓡)
     (first-meets 𝓤 H (𝓖 .A) (givenOf 𝓤 H 𝓜 𝓖) (𝓜 .mem) (𝓡 .run) (tablesOf 𝓤 H 𝓜 (tables 𝓤 H 𝓜 𝓡 code.env))
     (cited 𝓤 H (New 𝓤 H (𝓖 .A) (𝓜 .mem) (𝓡 .run)) 𝓜 𝓡 code.env #line-reader new-def.routine
-    code.calls-lines·reader·line-reader (new-thm.met 𝓤 H 𝓜 𝓖 𝓡))
+    code.calls-line-reader·line-reader (new-thm.met 𝓤 H 𝓜 𝓖 𝓡))
     (cited 𝓤 H (Take 𝓤 H (𝓖 .A) (𝓜 .mem) (𝓡 .run)) 𝓜 𝓡 code.env #take-line take-def.routine
-    code.calls-lines·reader·take-line (take-thm.met 𝓤 H 𝓜 𝓖 𝓡)))
+    code.calls-line-reader·take-line (take-thm.met 𝓤 H 𝓜 𝓖 𝓡)))
