@@ -4,7 +4,7 @@
 ghost use mathlib.Core.Path.{_≡_};
 ghost use lib.ListN.{length};
 ghost use Rattle.buffers.specs.Written.{writtenAt};
-ghost use Rattle.answers.specs.Answer.{refusalText, answerText};
+ghost use Rattle.answers.specs.Answer.{refusalText, answerText, WordAlone};
 use buffers::Written;
 use buffers::write_bytes;
 use cues::Cue;
@@ -37,18 +37,28 @@ fn write_refusal(buf: &mut [u8], at: usize, refusal: Refusal) -> Written
     write_number_line(buf, at, b"refused,", refusal_number(refusal))
 }
 
-// Writes the line of an answer, with its LF, at a place of the buffer, if it fits there.
-pub fn write_answer(buf: &mut [u8], at: usize, answer: Answer) -> Written
+// Writes the line of an answer that is a word alone, if it fits.
+fn write_word(buf: &mut [u8], at: usize, answer: Answer) -> Written
+    requires { ⌜ WordAlone answer ⌝ }
     ensures { λ r. ⌜ (r, now (buf .exit)) ≡ writtenAt (now (buf .entry)) at (answerText answer) ⌝ }
 {
     match answer {
         Answer::Ok => write_bytes(buf, at, b"ok\n"),
         Answer::Yes => write_bytes(buf, at, b"yes\n"),
         Answer::No => write_bytes(buf, at, b"no\n"),
-        Answer::Empty => write_bytes(buf, at, b"empty\n"),
+        _ => write_bytes(buf, at, b"empty\n"),
+    }
+}
+
+// Writes the line of an answer, with its LF, at a place of the buffer, if it fits there.
+pub fn write_answer(buf: &mut [u8], at: usize, answer: Answer) -> Written
+    ensures { λ r. ⌜ (r, now (buf .exit)) ≡ writtenAt (now (buf .entry)) at (answerText answer) ⌝ }
+{
+    match answer {
         Answer::Cue(cue) => write_cue_line(buf, at, cue),
         Answer::Left(n) => write_number_line(buf, at, b"left,", n as u64),
         Answer::Refused(refusal) => write_refusal(buf, at, refusal),
+        _ => write_word(buf, at, answer),
     }
 }
 
