@@ -33,13 +33,45 @@ use Rattle.records.specs.Record.{fieldText, recordText}
 use Rattle.records.proofs.Laws.{field-length, record-length}
 use Rattle.cues.specs.CueText.{cueText}
 use Rattle.answers.specs.declared.Answer.{Answer}
-use Rattle.answers.specs.declared.Answer.the-variants.{Cue, Left}
-use Rattle.answers.specs.Answer.{rowText, refusalText, answerText}
+use Rattle.answers.specs.declared.Answer.the-variants.{Ok, Yes, No, Empty, Cue, Left, Refused}
+use Rattle.answers.specs.Answer.{rowText, refusalText, answerText, WordAlone}
+use Rattle.answers.proofs.Answer as answer
 
 -- an arm of the code's `match` wrote the text of its case
 pub arm-written : (p : Written × List ℕ) (buf : List ℕ) (at : ℕ) (a k : Answer) → a ≡ k
     → p ≡ writtenAt buf at (answerText k) → p ≡ writtenAt buf at (answerText a)
 arm-written p buf at a k q e = e ∙ ap (λ (x : Answer). writtenAt buf at (answerText x)) (sym q)
+
+-- the same for a text that the code knows in other words
+pub text-written : (p : Written × List ℕ) (buf : List ℕ) (at : ℕ) (s t : List ℕ) → s ≡ t
+    → p ≡ writtenAt buf at t → p ≡ writtenAt buf at s
+text-written p buf at s t q e = e ∙ ap (writtenAt buf at) (sym q)
+
+-- the answers that are a word alone, as the code's `match` tells them apart
+abbrev words : List ℕ
+words = 0 ∷ 1 ∷ 2 ∷ 3 ∷ []
+
+pub word-alone : (a : Answer) → OneOf words (Declared.tagOf answer.the-type a) → WordAlone a
+word-alone Ok k = tt
+word-alone Yes k = tt
+word-alone No k = tt
+word-alone Empty k = tt
+word-alone (Cue c) k = miss words 4 tt k
+word-alone (Left n) k = miss words 5 tt k
+word-alone (Refused r) k = miss words 6 tt k
+
+-- the answers behind `no`: only `empty` of them is a word alone
+abbrev behindNo : List ℕ
+behindNo = 3 ∷ 4 ∷ 5 ∷ 6 ∷ []
+
+pub word-left : (a : Answer) → WordAlone a → OneOf behindNo (Declared.tagOf answer.the-type a) → a ≡ Empty
+word-left Ok w k = absurd (miss behindNo 0 tt k)
+word-left Yes w k = absurd (miss behindNo 1 tt k)
+word-left No w k = absurd (miss behindNo 2 tt k)
+word-left Empty w k = refl
+word-left (Cue c) w k = absurd w
+word-left (Left n) w k = absurd w
+word-left (Refused r) w k = absurd w
 
 pub blocked-text : (r : Refusal) (e : ℕ) → r ≡ Blocked e → refusalText r ≡ recordText (bytes "refused") 8 e
 unfolding refusalText

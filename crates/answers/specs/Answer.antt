@@ -54,3 +54,13 @@ answerText Empty = bytes "empty\n"
 answerText (Cue c) = bytes "cue," ++ cueText c
 answerText (Left n) = bytes "left," ++ fieldText n 10
 answerText (Refused r) = refusalText r
+
+-- the answer has no number and no cue: its line is a word
+abbrev pub WordAlone : Answer → Type 0
+WordAlone Ok = Unit {0}
+WordAlone Yes = Unit {0}
+WordAlone No = Unit {0}
+WordAlone Empty = Unit {0}
+WordAlone (Cue c) = ⊥
+WordAlone (Left n) = ⊥
+WordAlone (Refused r) = ⊥

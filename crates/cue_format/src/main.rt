@@ -4,9 +4,9 @@
 // One byte more than a script text may have is read, so that a longer input is told apart. The report
 // never needs more than 3,584 bytes.
 use buffers::Written;
+use formatting::write_report;
 use libc::STDIN_FILENO;
 use libc::STDOUT_FILENO;
-use script_texts::write_report;
 
 fn main() {
     let mut input = [0u8; 65537];

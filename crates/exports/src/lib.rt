@@ -4,13 +4,13 @@
 // the boundary is kept to numbers and bytes.
 ghost use mathlib.Core.Path.{_≡_};
 ghost use Rattle.checksum.specs.Checksum.{checksumFrom};
-ghost use Rattle.script_texts.specs.Format.{reportOf};
+ghost use Rattle.formatting.specs.Format.{reportOf};
 ghost use Rattle.session.specs.Output.{outputOf};
 ghost use Rattle.exports.specs.Report.{answerNumber, exported};
 use buffers::Written;
 use checksum::checksum_from;
+use formatting::write_report;
 use refusals::refusal_number;
-use script_texts::write_report;
 use session::run_session;
 
 fn answer_number(written: Written) -> u64

@@ -1,4 +1,4 @@
--- Laws of writing the cues of a table, a key at a time, and of what formatting answers. Assumes nothing.
+-- Laws of writing the cues of a table, a key at a time. Assumes nothing.
 use mathlib.Core.Path.{_≡_, sym, ap, _∙_}
 use mathlib.Core.List.{List, [], _++_}
 use Prim.Native.Nat.{ℕ, _+_, _≤_, _<_, min}
@@ -9,19 +9,8 @@ use lib.Seq.{drop-cons, getD-take, sets}
 use Rattle.buffers.proofs.Laws.{sets-append}
 use Rattle.cues.specs.Cue.{cueOf}
 use Rattle.cues.specs.CueText.{cueText}
-use Rattle.refusals.specs.declared.Refusal.{Refusal}
-use Rattle.refusals.specs.Refusal.{refusalNumber}
-use Rattle.buffers.specs.declared.Written.{Written}
-use Rattle.buffers.specs.Written.{writtenAt}
-use Rattle.lines.specs.Ascii.{bytes}
-use Rattle.records.specs.Record.{recordText}
-use Rattle.scripts.specs.declared.reading.Outcome.{Outcome}
-use Rattle.scripts.specs.declared.reading.Outcome.the-variants.{Accepted, Refused}
-use Rattle.script_texts.specs.declared.Formatted.{Formatted}
-use Rattle.script_texts.specs.declared.Formatted.the-variants.{Refused as RefusedFormat}
-use Rattle.scripts.specs.Script.{keysIn, scriptOf}
+use Rattle.scripts.specs.Script.{keysIn}
 use Rattle.scripts.specs.ScriptText.{textOf}
-use Rattle.script_texts.specs.Format.{normal, formatOf, reportOf}
 
 -- ---- the keys of a table
 pub keys-counted : (words : List ℕ) (n : ℕ) → length (keysIn words n) ≡ min n (min 256 (length words))
@@ -58,29 +47,3 @@ module _ (words : List ℕ) (n i : ℕ) (h : i < length (keysIn words n)) where
 pub text-end : (ks : List ℕ) (i : ℕ) → length ks ≤ i → textOf (drop i ks) ≡ []
 unfolding textOf
 text-end ks i h = rw (drop-of-length-le ks h)
-
--- ---- what formatting answers
-module _ (s t buf : List ℕ) (o : Outcome) (e : (o, t) ≡ scriptOf s) where
-  outcome : scriptOf s .0 ≡ o
-  outcome = ap (λ (p : Outcome × List ℕ). p .0) (sym e)
-
-  keys : scriptOf s .1 ≡ t
-  keys = ap (λ (p : Outcome × List ℕ). p .1) (sym e)
-
-  pub format-refused : (r : Refusal) (n : ℕ) → o ≡ Refused r n → (RefusedFormat r n, buf) ≡ formatOf s buf
-  unfolding formatOf
-  format-refused r n q = rw (outcome, q)
-
-  pub format-written : (w : Written) (f : Formatted) (after : List ℕ) → o ≡ Accepted
-      → (w, after) ≡ writtenAt buf 0 (textOf t) → f ≡ normal w → (f, after) ≡ formatOf s buf
-  unfolding formatOf
-  format-written w f after q ew ef = rw (outcome, keys, q, ← ew, ef)
-
-  pub report-refused : (r : Refusal) (n : ℕ) → o ≡ Refused r n
-      → recordText (bytes "refused") (refusalNumber r) n ≡ reportOf s
-  unfolding reportOf
-  report-refused r n q = rw (outcome, q)
-
-  pub report-accepted : o ≡ Accepted → textOf t ≡ reportOf s
-  unfolding reportOf
-  report-accepted q = rw (outcome, keys, q)

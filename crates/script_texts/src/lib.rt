@@ -1,4 +1,4 @@
-// Scripts, written as their normal form into a lent buffer; and script texts, formatted.
+// Scripts, written as their normal form into a lent buffer.
 //
 // The normal form of a script has its cues in rising order, a line each. It is written whole or not at all, and bytes
 // beside it stay. No public function has a `requires`.
@@ -9,25 +9,13 @@ ghost use lib.Seq.{sets};
 ghost use Rattle.buffers.specs.Written.{writtenAt};
 ghost use Rattle.scripts.specs.Script.{keysIn, keysOf};
 ghost use Rattle.scripts.specs.ScriptText.{textOf};
-ghost use Rattle.script_texts.specs.Format.{formatOf, reportOf};
 use buffers::Written;
 use buffers::fits;
 use cues::cue_length;
 use cues::key_cue;
 use cues::write_cue;
-use records::write_record;
 use refusals::Refusal;
-use refusals::refusal_number;
-use scripts::Outcome;
 use scripts::Script;
-use scripts::read_script;
-
-pub enum Formatted {
-    // How many bytes the normal form has.
-    Normal(usize),
-    // The row that the text meets, with the line; or 14 with line 0, where the buffer is too short.
-    Refused(Refusal, usize),
-}
 
 // How many keys a table has: n, but never more than its words or 256.
 pub fn key_count(keys: &[u64], n: usize) -> usize
@@ -105,33 +93,4 @@ pub fn write_script(buf: &mut [u8], script: Script) -> Written
     let keys = script.keys;
     let n = script.count;
     write_cues(buf, 0, &keys, n)
-}
-
-// Reads a script text and writes its normal form to the front of the buffer.
-pub fn format_script(buf: &mut [u8], text: &[u8]) -> Formatted
-    ensures { λ r. ⌜ (r, now (buf .exit)) ≡ formatOf (now (text .entry)) (now (buf .entry)) ⌝ }
-{
-    let reading = read_script(text);
-    let outcome = reading.outcome;
-    if let Outcome::Refused(refusal, line) = outcome {
-        return Formatted::Refused(refusal, line);
-    }
-    let script = reading.script;
-    match write_script(buf, script) {
-        Written::Upto(end) => Formatted::Normal(end),
-        Written::Refused(refusal) => Formatted::Refused(refusal, 0),
-    }
-}
-
-// Writes what the formatter prints of a text: its normal form, or the line `refused,n,line`.
-pub fn write_report(buf: &mut [u8], text: &[u8]) -> Written
-    ensures { λ r. ⌜ (r, now (buf .exit)) ≡ writtenAt (now (buf .entry)) 0 (reportOf (now (text .entry))) ⌝ }
-{
-    let reading = read_script(text);
-    let outcome = reading.outcome;
-    if let Outcome::Refused(refusal, line) = outcome {
-        return write_record(buf, 0, b"refused", refusal_number(refusal), line as u64);
-    }
-    let script = reading.script;
-    write_script(buf, script)
 }

@@ -6,13 +6,13 @@ ghost use Rattle.scripts.specs.Script.{keysIn};
 ghost use Rattle.store_words.specs.Words.{stateOf, ScriptFits, QueueFits};
 ghost use Rattle.session.specs.Output.{listText, closingText};
 ghost use Rattle.session.specs.Put.{Put};
-use answers::write_number_line;
 use buffers::Written;
 use numbers::digit_count;
 use script_texts::cues_length;
 use script_texts::write_cues;
 use store_words::QUEUE_COUNT;
 use store_words::SCRIPT_COUNT;
+use word_lines::write_number_line;
 
 // Puts a list at a place where it fits: the word and the count of a table with LF, then its cue lines.
 fn put_list(buf: &mut [u8], at: usize, word: &[u8], keys: &[u64], n: usize) -> usize

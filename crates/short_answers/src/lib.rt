@@ -13,13 +13,13 @@ ghost use Rattle.records.specs.Record.{fieldText, recordText};
 ghost use Rattle.lines.specs.Ascii.{bytes};
 ghost use Rattle.answers.specs.Answer.{rowText, refusalText, answerText};
 use answers::Answer;
-use answers::write_cue_line;
-use answers::write_number_line;
 use buffers::Written;
 use buffers::fits;
 use records::write_record;
 use refusals::Refusal;
 use refusals::refusal_number;
+use word_lines::write_cue_line;
+use word_lines::write_number_line;
 
 // Two bytes, at a place where they fit.
 fn put_two(buf: &mut [u8], at: usize, a: u8, b: u8)

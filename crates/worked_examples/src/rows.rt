@@ -5,9 +5,9 @@ use crate::cases::check_full;
 use crate::cases::check_start;
 use crate::cases::report;
 use check::same;
+use formatting::Formatted;
+use formatting::format_script;
 use refusals::refusal_number;
-use script_texts::Formatted;
-use script_texts::format_script;
 
 pub fn of_texts() -> u64
     ensures { λ r. ⌜ r ≤ 2 ⌝ }

@@ -1,7 +1,5 @@
 -- `answers::write_refusal` meets its contract: 8 prints a third field, every other row none. Assumes nothing.
-use mathlib.Core.Path.{sym, ap, _∙_}
-use Rattle.buffers.specs.Written.{writtenAt}
-use Rattle.answers.proofs.Laws.{blocked-text, row-text}
+use Rattle.answers.proofs.Laws.{text-written, blocked-text, row-text}
 use borrow.Author.Needs.{needs}
 use Rattle.answers.proofs.write_refusal.Statement.{statement}
 use Rattle.answers.proofs.write_refusal.Tie as tie
@@ -22,8 +20,7 @@ returns : tie.Need-returns
 returns c =
     let o = c .before .before in
     let r = o .before .before .before .before in
-    let a = r .before .before .before .args in
-    o .write-record .ensures ∙ ap (writtenAt (a .buf .now) (a .at)) (sym (blocked-text _ _ (r .refusal .given .1)))
+    text-written _ _ _ _ _ (blocked-text _ _ (r .refusal .given .1)) (o .write-record .ensures)
 
 slice-aggregate-write-number-line : tie.Need-slice-aggregate-write-number-line
 slice-aggregate-write-number-line c = search needs
@@ -42,10 +39,8 @@ returns-2 c =
     let o = c .before .before in
     let n = o .before .refusal-number in
     let k = o .before .before .before .before in
-    let a = k .before .before .args in
-    o .write-number-line .ensures
-    ∙ ap (writtenAt (a .buf .now) (a .at))
-    (sym (row-text (a .refusal) (n .result) (n .ensures .0) (k .match .keys2)))
+    text-written _ _ _ _ _ (row-text (k .before .before .args .refusal) (n .result) (n .ensures .0) (k .match .keys2))
+    (o .write-number-line .ensures)
 
 pub write-refusal-spec : {M : Type 1} → statement M
 write-refusal-spec =

@@ -3,7 +3,7 @@ use mathlib.Core.List.{_++_}
 use Rattle.records.specs.Record.{fieldText}
 use Rattle.scripts.specs.Script.{keysIn}
 use Rattle.scripts.specs.ScriptText.{textOf}
-use Rattle.answers.proofs.Parts.{first-refused, second-refused, both-put}
+use Rattle.word_lines.proofs.Parts.{first-refused, second-refused, both-put}
 use Rattle.session.proofs.Lists.{counted-text, counted-fits}
 use Rattle.session.proofs.Puts.{put-as}
 use borrow.Author.Needs.{needs}

@@ -12,9 +12,9 @@ use Rattle.scripts.specs.declared.reading.Outcome.{Outcome}
 use Rattle.scripts.specs.declared.reading.Outcome.the-variants.{Accepted, Refused}
 use Rattle.scripts.specs.Script.{scriptOf}
 use Rattle.scripts.specs.ScriptText.{textOf}
-use Rattle.script_texts.specs.declared.Formatted.{Formatted}
-use Rattle.script_texts.specs.declared.Formatted.the-variants.{Normal}
-use Rattle.script_texts.specs.declared.Formatted.the-variants.{Refused as RefusedFormat}
+use Rattle.formatting.specs.declared.Formatted.{Formatted}
+use Rattle.formatting.specs.declared.Formatted.the-variants.{Normal}
+use Rattle.formatting.specs.declared.Formatted.the-variants.{Refused as RefusedFormat}
 
 -- what the writer answered, as the formatter's answer
 abbrev pub normal : Written → Formatted

@@ -1,11 +1,11 @@
--- `script_texts::format_script` meets its contract. Assumes nothing.
+-- `formatting::format_script` meets its contract. Assumes nothing.
 use mathlib.Core.Path.{_≡_, sym, ap}
-use Rattle.script_texts.specs.declared.Formatted.{Formatted}
-use Rattle.script_texts.specs.Format.{normal, formatOf}
-use Rattle.script_texts.proofs.Laws.{format-refused, format-written}
+use Rattle.formatting.specs.declared.Formatted.{Formatted}
+use Rattle.formatting.specs.Format.{normal, formatOf}
+use Rattle.formatting.proofs.Laws.{format-refused, format-written}
 use borrow.Author.Needs.{needs}
-use Rattle.script_texts.proofs.format_script.Statement.{statement}
-use Rattle.script_texts.proofs.format_script.Tie as tie
+use Rattle.formatting.proofs.format_script.Statement.{statement}
+use Rattle.formatting.proofs.format_script.Tie as tie
 
 -- the writer's answer, told as the formatter's
 as-written : (w : tie.After-write-script) (f : Formatted) → f ≡ normal (w .write-script .result) →

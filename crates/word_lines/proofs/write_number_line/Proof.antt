@@ -1,4 +1,4 @@
--- `answers::write_number_line` meets its contract. Assumes nothing.
+-- `word_lines::write_number_line` meets its contract. Assumes nothing.
 use mathlib.Core.Path.{_≡_}
 use mathlib.Core.List.{_++_}
 use Prim.Native.Nat.{_+_}
@@ -8,8 +8,8 @@ use Rattle.buffers.proofs.Laws.{written, too-short, room, no-room}
 use Rattle.records.specs.Record.{fieldText}
 use Rattle.records.proofs.Laws.{field-length}
 use borrow.Author.Needs.{needs}
-use Rattle.answers.proofs.write_number_line.Statement.{statement}
-use Rattle.answers.proofs.write_number_line.Tie as tie
+use Rattle.word_lines.proofs.write_number_line.Statement.{statement}
+use Rattle.word_lines.proofs.write_number_line.Tie as tie
 
 digit-count-requires : tie.Need-digit-count-requires
 digit-count-requires c κs = search needs

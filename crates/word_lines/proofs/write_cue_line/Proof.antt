@@ -1,4 +1,4 @@
--- `answers::write_cue_line` meets its contract. Assumes nothing.
+-- `word_lines::write_cue_line` meets its contract. Assumes nothing.
 use mathlib.Core.Path.{_≡_}
 use mathlib.Core.List.{_++_}
 use Prim.Native.Nat.{_+_}
@@ -8,8 +8,8 @@ use Rattle.buffers.proofs.Laws.{written, too-short, room, no-room}
 use Rattle.lines.specs.Ascii.{bytes}
 use Rattle.cues.specs.CueText.{cueText}
 use borrow.Author.Needs.{needs}
-use Rattle.answers.proofs.write_cue_line.Statement.{statement}
-use Rattle.answers.proofs.write_cue_line.Tie as tie
+use Rattle.word_lines.proofs.write_cue_line.Statement.{statement}
+use Rattle.word_lines.proofs.write_cue_line.Tie as tie
 
 cue-length-requires : tie.Need-cue-length-requires
 cue-length-requires c κs = search needs

@@ -1,13 +1,8 @@
--- `script_texts::write_report` meets its contract. Assumes nothing.
-use mathlib.Core.Path.{ap, _∙_}
-use Prim.Native.Nat.{ℕ}
-use Rattle.buffers.specs.Written.{writtenAt}
-use Rattle.records.specs.Record.{recordText}
-use Rattle.lines.specs.Ascii.{bytes}
-use Rattle.script_texts.proofs.Laws.{report-refused, report-accepted}
+-- `formatting::write_report` meets its contract. Assumes nothing.
+use Rattle.formatting.proofs.Laws.{report-refused, report-accepted}
 use borrow.Author.Needs.{needs}
-use Rattle.script_texts.proofs.write_report.Statement.{statement}
-use Rattle.script_texts.proofs.write_report.Tie as tie
+use Rattle.formatting.proofs.write_report.Statement.{statement}
+use Rattle.formatting.proofs.write_report.Tie as tie
 
 read-script-requires : tie.Need-read-script-requires
 read-script-requires c κs = search needs
@@ -34,10 +29,8 @@ returns c =
     let q = n .before .before .before .before in
     let r = q .before .before .read-script in
     let a = q .before .before .before .before .before .args in
-    let line = q .outcome .given .0 .1 .0 in
-    let e = report-refused (a .text .now) _ (a .buf .now) _ (r .ensures) _ _ (q .outcome .given .1) in
-    let m = ap (λ (m : ℕ). recordText (bytes "refused") m line) (n .refusal-number .ensures .0) in
-    w .write-record .ensures ∙ ap (writtenAt (a .buf .now) 0) (m ∙ e)
+    report-refused (a .text .now) _ (a .buf .now) _ (r .ensures) _ _ _ _ (q .outcome .given .1)
+    (n .refusal-number .ensures .0) (w .write-record .ensures)
 
 enum-told : tie.Need-enum-told
 enum-told c = search needs
@@ -54,8 +47,7 @@ returns-2 c =
     let k = w .before .before .before in
     let r = k .before .before .read-script in
     let a = k .before .before .before .before .before .args in
-    let e = report-accepted (a .text .now) _ (a .buf .now) _ (r .ensures) (k .enum-told .given .1) in
-    w .write-script .ensures ∙ ap (writtenAt (a .buf .now) 0) e
+    report-accepted (a .text .now) _ (a .buf .now) _ (r .ensures) _ (k .enum-told .given .1) (w .write-script .ensures)
 
 pub write-report-spec : {M : Type 1} → statement M
 write-report-spec =

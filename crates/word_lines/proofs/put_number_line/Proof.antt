@@ -1,13 +1,9 @@
--- `answers::put_cue_line` meets its contract: both parts fit, so no writer refuses. Assumes nothing.
-use Rattle.lines.specs.Ascii.{bytes}
-use Rattle.cues.specs.CueText.{cueText}
-use Rattle.answers.proofs.Parts.{first-refused, second-refused, both-put}
+-- `word_lines::put_number_line` meets its contract: both parts fit, so no writer refuses. Assumes nothing.
+use Rattle.records.specs.Record.{fieldText}
+use Rattle.word_lines.proofs.Parts.{first-refused, second-refused, both-put}
 use borrow.Author.Needs.{needs}
-use Rattle.answers.proofs.put_cue_line.Statement.{statement}
-use Rattle.answers.proofs.put_cue_line.Tie as tie
-
-slice-aggregate-write-bytes : tie.Need-slice-aggregate-write-bytes
-slice-aggregate-write-bytes c = search needs
+use Rattle.word_lines.proofs.put_number_line.Statement.{statement}
+use Rattle.word_lines.proofs.put_number_line.Tie as tie
 
 write-bytes-requires : tie.Need-write-bytes-requires
 write-bytes-requires c κs = search needs
@@ -28,11 +24,11 @@ returns c =
     let a = s .args in
     let w = o .write-bytes in
     absurd
-    (first-refused (a .buf .now) (w .last .0) (bytes "cue,") (cueText (a .cue)) (w .result) (a .at) (s .pre)
+    (first-refused (a .buf .now) (w .last .0) (a .word .now) (fieldText (a .n) 10) (w .result) (a .at) (s .pre)
     (w .ensures) _ (c .enum-told .given .1))
 
-write-cue-requires : tie.Need-write-cue-requires
-write-cue-requires c κs = search needs
+write-field-requires : tie.Need-write-field-requires
+write-field-requires c κs = search needs
 
 enum-known-end : tie.Need-enum-known-end
 enum-known-end c = search needs
@@ -51,9 +47,9 @@ returns-2 c =
     let s = o .before .before .before .before in
     let a = s .args in
     let w = o .write-bytes in
-    let x = f .write-cue in
+    let x = f .write-field in
     absurd
-    (second-refused (a .buf .now) (w .last .0) (bytes "cue,") (cueText (a .cue)) (w .result) (a .at) (s .pre)
+    (second-refused (a .buf .now) (w .last .0) (a .word .now) (fieldText (a .n) 10) (w .result) (a .at) (s .pre)
     (w .ensures) (x .last .0) (x .result) _ (m .middle .given .1) (x .ensures) _ (c .enum-told2 .given .1))
 
 same-length-3 : tie.Need-same-length-3
@@ -67,21 +63,20 @@ returns-3 c =
     let s = o .before .before .before .before in
     let a = s .args in
     let w = o .write-bytes in
-    let x = f .write-cue in
-    both-put (a .buf .now) (w .last .0) (bytes "cue,") (cueText (a .cue)) (w .result) (a .at) (s .pre)
+    let x = f .write-field in
+    both-put (a .buf .now) (w .last .0) (a .word .now) (fieldText (a .n) 10) (w .result) (a .at) (s .pre)
     (w .ensures) (x .last .0) (x .result) _ (m .middle .given .1) (x .ensures) _ (c .before .end .given .1)
 
-pub put-cue-line-spec : {M : Type 1} → statement M
-put-cue-line-spec =
+pub put-number-line-spec : {M : Type 1} → statement M
+put-number-line-spec =
     tie.close
     (tie.spec
-    slice-aggregate-write-bytes
     write-bytes-requires
     enum-known-middle
     enum-told
     same-length
     returns
-    write-cue-requires
+    write-field-requires
     enum-known-end
     enum-told-2
     same-length-2
