@@ -1,6 +1,6 @@
 -- `answers::put_cue_line` meets its contract: both parts fit, so no writer refuses. Assumes nothing.
 use Rattle.lines.specs.Ascii.{bytes}
-use Rattle.cues.specs.CueText.{cueText}
+use Rattle.cue_texts.specs.CueText.{cueText}
 use Rattle.answers.proofs.Parts.{first-refused, second-refused, both-put}
 use borrow.Author.Needs.{needs}
 use Rattle.answers.proofs.put_cue_line.Statement.{statement}
