@@ -12,7 +12,7 @@ use Rattle.refusals.specs.declared.Refusal.the-variants.{
   QueueFull,
   BufferTooShort,
 }
-use Rattle.cues.specs.CueText.{cueText}
+use Rattle.cue_texts.specs.CueText.{cueText}
 use Rattle.answers.specs.declared.Answer.{Answer}
 use Rattle.answers.specs.declared.Answer.the-variants.{Ok, Yes, No, Empty, Cue, Left, Refused}
 use Rattle.answers.specs.Answer.{refusalText, answerText}

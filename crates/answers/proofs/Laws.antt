@@ -31,7 +31,7 @@ use Rattle.lines.specs.Ascii.{bytes}
 use Rattle.numbers.specs.Digits.{digitsAt, digitsOf}
 use Rattle.records.specs.Record.{fieldText, recordText}
 use Rattle.records.proofs.Laws.{field-length, record-length}
-use Rattle.cues.specs.CueText.{cueText}
+use Rattle.cue_texts.specs.CueText.{cueText}
 use Rattle.answers.specs.declared.Answer.{Answer}
 use Rattle.answers.specs.declared.Answer.the-variants.{Ok, Yes, No, Empty, Cue, Left, Refused}
 use Rattle.answers.specs.Answer.{rowText, refusalText, answerText, WordAlone}

@@ -36,8 +36,8 @@ use Rattle.refusals.specs.declared.Refusal.the-variants.{
   BufferTooShort,
 }
 use Rattle.cues.specs.declared.Cue.{Cue as CueRecord}
-use Rattle.cues.specs.CueText.{cueBody, cueText}
-use Rattle.cues.proofs.Theorems.{body-then-lf, cue-line-no-lf}
+use Rattle.cue_texts.specs.CueText.{cueBody, cueText}
+use Rattle.cue_texts.proofs.Theorems.{body-then-lf, cue-line-no-lf}
 use Rattle.answers.specs.declared.Answer.{Answer}
 use Rattle.answers.specs.declared.Answer.the-variants.{Ok, Yes, No, Empty, Cue, Left, Refused}
 use Rattle.answers.specs.Answer.{rowText, refusalText, answerText}

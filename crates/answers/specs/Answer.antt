@@ -21,7 +21,7 @@ use Rattle.refusals.specs.declared.Refusal.the-variants.{
 }
 use Rattle.lines.specs.Ascii.{bytes}
 use Rattle.records.specs.Record.{fieldText, recordText}
-use Rattle.cues.specs.CueText.{cueText}
+use Rattle.cue_texts.specs.CueText.{cueText}
 use Rattle.answers.specs.declared.Answer.{Answer}
 use Rattle.answers.specs.declared.Answer.the-variants.{Ok, Yes, No, Empty, Cue, Left, Refused}
 

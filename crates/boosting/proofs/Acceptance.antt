@@ -10,7 +10,7 @@ use lib.ListN.{length, getD, replicate}
 use Rattle.lines.specs.Lines.{upTo, onto, linesOf}
 use Rattle.numbers.specs.Digits.{digitsAt}
 use Rattle.numbers.specs.Number.{valueFrom, numberOf}
-use Rattle.cues.specs.CueLine.{fieldsOf}
+use Rattle.cue_lines.specs.CueLine.{fieldsOf}
 use Rattle.tables.specs.Table.{memberOf, insertOf, deleteOf, putOnceOf}
 use Rattle.steps.specs.Word.{same, wordOf}
 use Rattle.answers.specs.declared.Answer.{Answer}

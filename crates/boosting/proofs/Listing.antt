@@ -12,7 +12,7 @@ use borrow.Author.Tests.{eq-eqb}
 use Rattle.lines.specs.Ascii.{bytes}
 use Rattle.numbers.proofs.Laws.{digits-small}
 use Rattle.cues.specs.Cue.{CueKey, cueOf}
-use Rattle.cues.specs.CueText.{cueText}
+use Rattle.cue_texts.specs.CueText.{cueText}
 use Rattle.tables.specs.Table.{memberOf}
 use Rattle.scripts.specs.ScriptText.{textOf}
 use Rattle.scripts.specs.Theorems.{AllCues, SoundScript}

@@ -6,7 +6,7 @@ use mathlib.Core.List.{List, [], _∷_, _++_}
 use Rattle.lines.specs.Ascii.{bytes}
 use Rattle.records.specs.Record.{fieldText}
 use Rattle.cues.specs.Cue.{cueOf}
-use Rattle.cues.specs.CueText.{cueText}
+use Rattle.cue_texts.specs.CueText.{cueText}
 use Rattle.boosting.specs.Locks.{Locks}
 use Rattle.boosting.specs.Store.{Transaction, Store}
 

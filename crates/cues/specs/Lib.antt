@@ -1,4 +1,2 @@
 pub mod Cue
-pub mod CueLine
-pub mod CueText
 pub mod Theorems

@@ -11,7 +11,7 @@ use Rattle.lines.specs.Ascii.{bytes}
 use Rattle.numbers.specs.Digits.{digitsOf}
 use Rattle.records.specs.Record.{fieldText}
 use Rattle.cues.specs.Cue.{cueOf}
-use Rattle.cues.specs.CueText.{cueText}
+use Rattle.cue_texts.specs.CueText.{cueText}
 use Rattle.boosting.specs.Locks.{Locks}
 use Rattle.boosting.specs.Listing.{lockLine, modeLine, lockLines, modeLines, modesOf, listingOf, listingFrom}
 use Rattle.transactions.specs.View.{WordsFit, locksOf, transactionOf}

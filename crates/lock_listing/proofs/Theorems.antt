@@ -23,7 +23,7 @@ use Rattle.lines.specs.Ascii.{bytes}
 use Rattle.numbers.specs.Digits.{digitsOf}
 use Rattle.numbers.proofs.Laws.{digits-small}
 use Rattle.cues.specs.Cue.{cueOf}
-use Rattle.cues.proofs.Theorems.{cue-line-short}
+use Rattle.cue_texts.proofs.Theorems.{cue-line-short}
 use Rattle.scripts.specs.Theorems.{AllCues}
 use Rattle.boosting.specs.Store.{Transaction}
 use Rattle.boosting.specs.Listing.{lockLine, lockLines, modesOf, listingOf, listingFrom}

@@ -23,9 +23,9 @@ ghost use Rattle.lock_listing.specs.Listed.{
 use buffers::Written;
 use buffers::fits;
 use buffers::write_bytes;
-use cues::cue_length;
+use cue_texts::cue_length;
+use cue_texts::write_cue;
 use cues::key_cue;
-use cues::write_cue;
 use numbers::digit_count;
 use records::write_field;
 use refusals::Refusal;

@@ -10,8 +10,8 @@ use Rattle.lines.specs.Lines.{upTo, onto, linesOf}
 use Rattle.numbers.specs.Digits.{digitsAt}
 use Rattle.numbers.specs.Number.{valueFrom, numberOf}
 use Rattle.cues.specs.Cue.{keyOf}
-use Rattle.cues.specs.CueLine.{fieldsOf}
-use Rattle.cues.specs.CueText.{cueText}
+use Rattle.cue_lines.specs.CueLine.{fieldsOf}
+use Rattle.cue_texts.specs.CueText.{cueText}
 use Rattle.tables.specs.Table.{memberOf, insertOf}
 use Rattle.scripts.specs.declared.reading.Outcome.{Outcome}
 use Rattle.scripts.specs.declared.reading.Outcome.the-variants.{Accepted, Refused}

@@ -8,7 +8,7 @@ use lib.ListN.{length, getD, take, drop, length-take, length-append, drop-of-len
 use lib.Seq.{drop-cons, getD-take, sets}
 use Rattle.buffers.proofs.Laws.{sets-append}
 use Rattle.cues.specs.Cue.{cueOf}
-use Rattle.cues.specs.CueText.{cueText}
+use Rattle.cue_texts.specs.CueText.{cueText}
 use Rattle.scripts.specs.Script.{keysIn}
 use Rattle.scripts.specs.ScriptText.{textOf}
 

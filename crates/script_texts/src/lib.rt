@@ -11,9 +11,9 @@ ghost use Rattle.scripts.specs.Script.{keysIn, keysOf};
 ghost use Rattle.scripts.specs.ScriptText.{textOf};
 use buffers::Written;
 use buffers::fits;
-use cues::cue_length;
+use cue_texts::cue_length;
+use cue_texts::write_cue;
 use cues::key_cue;
-use cues::write_cue;
 use refusals::Refusal;
 use scripts::Script;
 

@@ -13,10 +13,10 @@ use Rattle.refusals.specs.declared.Refusal.the-variants.{ScriptFull, TextTooLon
 use Rattle.lines.specs.Lines.{upTo, linesOf}
 use Rattle.lines.proofs.Laws.{lines-next, lines-end}
 use Rattle.cues.specs.Cue.{keyOf}
-use Rattle.cues.specs.CueLine.{cueLineOf}
-use Rattle.cues.specs.declared.CueLine.{CueLine}
-use Rattle.cues.specs.declared.CueLine.the-variants.{InRange}
-use Rattle.cues.specs.declared.CueLine.the-variants.{Refused as RefusedLine}
+use Rattle.cue_lines.specs.CueLine.{cueLineOf}
+use Rattle.cue_lines.specs.declared.CueLine.{CueLine}
+use Rattle.cue_lines.specs.declared.CueLine.the-variants.{InRange}
+use Rattle.cue_lines.specs.declared.CueLine.the-variants.{Refused as RefusedLine}
 use Rattle.tables.specs.Table.{Ordered, rankOf, memberOf, insertOf}
 use Rattle.tables.proofs.Laws.{insert-split, insert-ordered, apart-new}
 use Rattle.scripts.specs.declared.reading.Outcome.{Outcome}

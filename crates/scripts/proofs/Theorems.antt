@@ -11,19 +11,14 @@ use Rattle.refusals.specs.declared.Refusal.the-variants.{ScriptFull}
 use Rattle.lines.specs.Lines.{linesOf}
 use Rattle.lines.proofs.Laws.{lines-append}
 use Rattle.cues.specs.Cue.{keyOf, cueOf, CueKey}
-use Rattle.cues.specs.CueLine.{cueLineOf}
-use Rattle.cues.specs.CueText.{cueBody, cueText}
-use Rattle.cues.specs.declared.CueLine.{CueLine}
-use Rattle.cues.specs.declared.CueLine.the-variants.{InRange}
-use Rattle.cues.specs.declared.CueLine.the-variants.{Refused as RefusedLine}
-use Rattle.cues.proofs.Theorems.{
-  key-is-cue-key,
-  body-text,
-  cue-line-no-lf,
-  cue-line-short,
-  cue-write-then-read,
-  cue-read-is-canonical,
-}
+use Rattle.cue_lines.specs.CueLine.{cueLineOf}
+use Rattle.cue_texts.specs.CueText.{cueBody, cueText}
+use Rattle.cue_lines.specs.declared.CueLine.{CueLine}
+use Rattle.cue_lines.specs.declared.CueLine.the-variants.{InRange}
+use Rattle.cue_lines.specs.declared.CueLine.the-variants.{Refused as RefusedLine}
+use Rattle.cues.proofs.Theorems.{key-is-cue-key}
+use Rattle.cue_texts.proofs.Theorems.{body-text, cue-line-no-lf, cue-line-short}
+use Rattle.cue_lines.proofs.Theorems.{cue-write-then-read, cue-read-is-canonical}
 use Rattle.tables.specs.Table.{From, Ordered, memberOf, insertOf}
 use Rattle.tables.proofs.Laws.{split, length-insert, member-insert, ext-rising}
 use Rattle.scripts.specs.declared.reading.Outcome.{Outcome}

@@ -8,10 +8,10 @@ use Rattle.refusals.specs.declared.Refusal.{Refusal}
 use Rattle.refusals.specs.declared.Refusal.the-variants.{ScriptFull, TextTooLong}
 use Rattle.lines.specs.Lines.{linesOf}
 use Rattle.cues.specs.Cue.{keyOf}
-use Rattle.cues.specs.CueLine.{cueLineOf}
-use Rattle.cues.specs.declared.CueLine.{CueLine}
-use Rattle.cues.specs.declared.CueLine.the-variants.{InRange}
-use Rattle.cues.specs.declared.CueLine.the-variants.{Refused as RefusedLine}
+use Rattle.cue_lines.specs.CueLine.{cueLineOf}
+use Rattle.cue_lines.specs.declared.CueLine.{CueLine}
+use Rattle.cue_lines.specs.declared.CueLine.the-variants.{InRange}
+use Rattle.cue_lines.specs.declared.CueLine.the-variants.{Refused as RefusedLine}
 use Rattle.tables.specs.Table.{memberOf, insertOf}
 use Rattle.scripts.specs.declared.reading.Script.{Script}
 use Rattle.scripts.specs.declared.reading.Outcome.{Outcome}

@@ -2,7 +2,7 @@
 use Prim.Native.Nat.{ℕ}
 use mathlib.Core.List.{List, [], _∷_, _++_}
 use Rattle.cues.specs.Cue.{cueOf}
-use Rattle.cues.specs.CueText.{cueText}
+use Rattle.cue_texts.specs.CueText.{cueText}
 
 -- the cues in rising order, each line with its LF; an empty script is zero bytes
 unfoldable pub textOf : List ℕ → List ℕ

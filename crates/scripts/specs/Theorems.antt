@@ -8,9 +8,9 @@ use lib.Dec.{eqb}
 use lib.ListN.{length}
 use Rattle.lines.specs.Lines.{linesOf}
 use Rattle.cues.specs.Cue.{CueKey, keyOf}
-use Rattle.cues.specs.CueLine.{cueLineOf}
-use Rattle.cues.specs.declared.CueLine.{CueLine}
-use Rattle.cues.specs.declared.CueLine.the-variants.{InRange, Refused}
+use Rattle.cue_lines.specs.CueLine.{cueLineOf}
+use Rattle.cue_lines.specs.declared.CueLine.{CueLine}
+use Rattle.cue_lines.specs.declared.CueLine.the-variants.{InRange, Refused}
 use Rattle.tables.specs.Table.{Ordered, memberOf}
 use Rattle.scripts.specs.declared.reading.Outcome.the-variants.{Accepted}
 use Rattle.scripts.specs.Script.{scriptOf}

@@ -35,8 +35,8 @@ use Rattle.numbers.proofs.Laws.{digits-at-most}
 use Rattle.records.specs.Record.{fieldText}
 use Rattle.records.proofs.Laws.{field-length, record-length}
 use Rattle.cues.specs.Cue.{cueOf}
-use Rattle.cues.specs.CueText.{cueText}
-use Rattle.cues.proofs.Laws.{text-length}
+use Rattle.cue_texts.specs.CueText.{cueText}
+use Rattle.cue_texts.proofs.Laws.{text-length}
 use Rattle.tables.proofs.Laws.{split}
 use Rattle.scripts.specs.declared.reading.Outcome.{Outcome}
 use Rattle.scripts.specs.declared.reading.Outcome.the-variants.{Accepted, Refused as RefusedText}

@@ -6,7 +6,7 @@ use Prim.Native.String.{String}
 use Rattle.lines.specs.Ascii.{bytes}
 use Rattle.lines.specs.Lines.{upTo}
 use Rattle.numbers.specs.Number.{valueFrom, numberOf}
-use Rattle.cues.specs.CueLine.{fieldsOf}
+use Rattle.cue_lines.specs.CueLine.{fieldsOf}
 use Rattle.steps.specs.declared.reading.CueNumbers.{CueNumbers}
 use Rattle.steps.specs.declared.reading.Step.{Step}
 use Rattle.steps.specs.declared.reading.Step.the-variants.{

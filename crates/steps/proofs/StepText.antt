@@ -22,8 +22,8 @@ use Rattle.numbers.specs.declared.Number.the-variants.{Malformed as NoNumber}
 use Rattle.numbers.proofs.Laws.{none-digits}
 use Rattle.numbers.proofs.Theorems.{write-then-read, read-is-canonical}
 use Rattle.numbers.specs.Field.{field}
-use Rattle.cues.specs.CueLine.{others, threeNumbers, fieldsOf}
-use Rattle.cues.specs.declared.Fields.the-variants.{Numbers}
+use Rattle.cue_lines.specs.CueLine.{others, threeNumbers, fieldsOf}
+use Rattle.cue_lines.specs.declared.Fields.the-variants.{Numbers}
 use Rattle.steps.specs.declared.reading.CueNumbers.{CueNumbers}
 use Rattle.steps.specs.declared.reading.NumberWord.{NumberWord}
 use Rattle.steps.specs.declared.reading.NumberWord.the-variants.{Begin, Min, Take, Commit, Undo, Back}

@@ -9,10 +9,10 @@ use Rattle.numbers.specs.declared.Number.{Number}
 use Rattle.numbers.specs.declared.Number.the-variants.{Value}
 use Rattle.numbers.specs.declared.Number.the-variants.{Malformed as NoNumber}
 use Rattle.numbers.specs.Field.{field}
-use Rattle.cues.specs.CueLine.{others, fieldsOf}
-use Rattle.cues.specs.declared.Fields.{Fields}
-use Rattle.cues.specs.declared.Fields.the-variants.{Numbers}
-use Rattle.cues.specs.declared.Fields.the-variants.{Malformed as NoCue}
+use Rattle.cue_lines.specs.CueLine.{others, fieldsOf}
+use Rattle.cue_lines.specs.declared.Fields.{Fields}
+use Rattle.cue_lines.specs.declared.Fields.the-variants.{Numbers}
+use Rattle.cue_lines.specs.declared.Fields.the-variants.{Malformed as NoCue}
 use Rattle.steps.specs.Word.{wordOf}
 use Rattle.steps.specs.declared.reading.CueNumbers.{CueNumbers}
 use Rattle.steps.specs.declared.reading.NumberWord.{NumberWord}

@@ -3,7 +3,7 @@ ghost use mathlib.Core.Path.{_≡_};
 ghost use mathlib.Core.Bool.{cond};
 ghost use lib.ListN.{length, drop};
 ghost use Rattle.numbers.specs.Field.{field};
-ghost use Rattle.cues.specs.CueLine.{others, fieldsOf};
+ghost use Rattle.cue_lines.specs.CueLine.{others, fieldsOf};
 ghost use Rattle.numbers.specs.Number.{numberOf};
 ghost use Rattle.steps.specs.Word.{same, wordOf};
 ghost use Rattle.steps.specs.Field.{fieldAt, FieldWithin};

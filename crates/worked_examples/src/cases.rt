@@ -8,8 +8,8 @@ ghost use Rattle.session.specs.Output.{outputOf};
 use buffers::Written;
 use buffers::write_bytes;
 use check::same;
+use cue_texts::write_cue;
 use cues::Cue;
-use cues::write_cue;
 use libc::STDOUT_FILENO;
 use session::run_session;
 

@@ -4,8 +4,8 @@ use Rattle.lines.specs.Lines.{upTo, onto, linesOf}
 use Rattle.numbers.specs.Digits.{digitsAt}
 use Rattle.numbers.specs.Number.{valueFrom, numberOf}
 use Rattle.records.specs.Record.{recordText}
-use Rattle.cues.specs.CueLine.{fieldsOf}
-use Rattle.cues.specs.CueText.{cueText}
+use Rattle.cue_lines.specs.CueLine.{fieldsOf}
+use Rattle.cue_texts.specs.CueText.{cueText}
 use Rattle.tables.specs.Table.{memberOf, insertOf, deleteOf, putOnceOf}
 use Rattle.scripts.specs.Script.{readFrom, scriptOf}
 use Rattle.scripts.specs.ScriptText.{textOf}

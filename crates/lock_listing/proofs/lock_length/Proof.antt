@@ -3,7 +3,7 @@ use mathlib.Core.Path.{_≡_, ap}
 use native.Mathlib.Omega.{arith}
 use lib.ListN.{length}
 use Rattle.cues.specs.Cue.{cueOf}
-use Rattle.cues.specs.CueText.{cueText}
+use Rattle.cue_texts.specs.CueText.{cueText}
 use Rattle.cues.specs.declared.Cue.{Cue}
 use Rattle.lock_listing.proofs.Listings.{lock-line-length}
 use borrow.Author.Needs.{needs}

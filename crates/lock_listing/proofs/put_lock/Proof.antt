@@ -8,7 +8,7 @@ use Rattle.buffers.specs.Written.{writtenAt}
 use Rattle.buffers.specs.declared.Written.{Written}
 use Rattle.records.specs.Record.{fieldText}
 use Rattle.cues.specs.Cue.{cueOf}
-use Rattle.cues.specs.CueText.{cueText}
+use Rattle.cue_texts.specs.CueText.{cueText}
 use Rattle.cues.specs.declared.Cue.{Cue}
 use Rattle.boosting.specs.Listing.{lockLine}
 use Rattle.lock_listing.proofs.Puts.{first-fits, rest-refused, rest-written}

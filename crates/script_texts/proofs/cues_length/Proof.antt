@@ -6,7 +6,7 @@ use native.Mathlib.Omega.{arith}
 use lib.ListN.{length, getD, drop}
 use borrow.Author.Needs.{needs}
 use Rattle.cues.specs.Cue.{cueOf}
-use Rattle.cues.specs.CueText.{cueText}
+use Rattle.cue_texts.specs.CueText.{cueText}
 use Rattle.cues.specs.declared.Cue.{Cue}
 use Rattle.scripts.specs.Script.{keysIn}
 use Rattle.scripts.specs.ScriptText.{textOf}

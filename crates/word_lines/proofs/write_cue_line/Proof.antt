@@ -6,7 +6,7 @@ use native.Mathlib.Omega.{arith}
 use lib.ListN.{length}
 use Rattle.buffers.proofs.Laws.{written, too-short, room, no-room}
 use Rattle.lines.specs.Ascii.{bytes}
-use Rattle.cues.specs.CueText.{cueText}
+use Rattle.cue_texts.specs.CueText.{cueText}
 use borrow.Author.Needs.{needs}
 use Rattle.word_lines.proofs.write_cue_line.Statement.{statement}
 use Rattle.word_lines.proofs.write_cue_line.Tie as tie

@@ -7,7 +7,7 @@ use native.Mathlib.Omega.{arith}
 use lib.ListN.{length, take, drop}
 use borrow.Author.Needs.{needs}
 use Rattle.lines.specs.Lines.{linesOf}
-use Rattle.cues.specs.CueLine.{cueLineOf}
+use Rattle.cue_lines.specs.CueLine.{cueLineOf}
 use Rattle.tables.specs.Table.{Ordered}
 use Rattle.scripts.specs.Script.{readFrom}
 use Rattle.scripts.proofs.ReadLaws.{

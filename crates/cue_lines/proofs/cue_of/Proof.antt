@@ -1,9 +1,9 @@
--- `cues::cue_of` meets its contract. Assumes nothing.
+-- `cue_lines::cue_of` meets its contract. Assumes nothing.
 use native.Mathlib.Omega.{arith}
 use Rattle.cues.proofs.Laws.{bounds}
 use borrow.Author.Needs.{needs}
-use Rattle.cues.proofs.cue_of.Statement.{statement}
-use Rattle.cues.proofs.cue_of.Tie as tie
+use Rattle.cue_lines.proofs.cue_of.Statement.{statement}
+use Rattle.cue_lines.proofs.cue_of.Tie as tie
 
 cast-t4 : tie.Need-cast-t4
 cast-t4 c = let a = c .args in omega (arith, bounds (a .time) (a .«module») (a .pin) (c .pre))

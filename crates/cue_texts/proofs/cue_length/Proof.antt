@@ -1,10 +1,10 @@
--- `cues::cue_length` meets its contract. Assumes nothing.
+-- `cue_texts::cue_length` meets its contract. Assumes nothing.
 use native.Mathlib.Omega.{arith}
 use Rattle.records.proofs.Laws.{field-length}
-use Rattle.cues.proofs.Laws.{text-length}
+use Rattle.cue_texts.proofs.Laws.{text-length}
 use borrow.Author.Needs.{needs}
-use Rattle.cues.proofs.cue_length.Statement.{statement}
-use Rattle.cues.proofs.cue_length.Tie as tie
+use Rattle.cue_texts.proofs.cue_length.Statement.{statement}
+use Rattle.cue_texts.proofs.cue_length.Tie as tie
 
 cast-digit-count : tie.Need-cast-digit-count
 cast-digit-count c = search needs

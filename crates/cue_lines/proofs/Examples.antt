@@ -7,9 +7,9 @@ use Rattle.lines.specs.Ascii.{bytes}
 use Rattle.lines.specs.Lines.{upTo}
 use Rattle.numbers.specs.Number.{valueFrom, numberOf}
 use Rattle.refusals.specs.declared.Refusal.the-variants.{CueOutOfRange, Malformed}
-use Rattle.cues.specs.declared.CueLine.{CueLine}
-use Rattle.cues.specs.declared.CueLine.the-variants.{InRange, Refused}
-use Rattle.cues.specs.CueLine.{fieldsOf, cueLineOf}
+use Rattle.cue_lines.specs.declared.CueLine.{CueLine}
+use Rattle.cue_lines.specs.declared.CueLine.the-variants.{InRange, Refused}
+use Rattle.cue_lines.specs.CueLine.{fieldsOf, cueLineOf}
 
 abbrev cue : ℕ → ℕ → ℕ → CueLine
 cue t m p = InRange (record { time = t; «module» = m; pin = p })

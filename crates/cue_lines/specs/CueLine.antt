@@ -11,11 +11,11 @@ use Rattle.numbers.specs.Number.{numberOf}
 use Rattle.numbers.specs.declared.Number.{Number}
 use Rattle.numbers.specs.declared.Number.the-variants.{Value}
 use Rattle.numbers.specs.declared.Number.the-variants.{Malformed as NoNumber}
-use Rattle.cues.specs.declared.Fields.{Fields}
-use Rattle.cues.specs.declared.Fields.the-variants.{Numbers, Malformed}
-use Rattle.cues.specs.declared.CueLine.{CueLine}
-use Rattle.cues.specs.declared.CueLine.the-variants.{InRange, Refused}
+use Rattle.cue_lines.specs.declared.Fields.{Fields}
+use Rattle.cue_lines.specs.declared.Fields.the-variants.{Numbers, Malformed}
+use Rattle.cue_lines.specs.declared.CueLine.{CueLine}
+use Rattle.cue_lines.specs.declared.CueLine.the-variants.{InRange, Refused}
 use Rattle.cues.specs.Cue.{inRange}
 
 -- what stands behind the first comma (44) of a line; `field` is what stands before it
 abbrev pub others : List ℕ → List ℕ

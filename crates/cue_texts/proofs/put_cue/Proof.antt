@@ -1,9 +1,9 @@
--- `cues::put_cue` meets its contract: three fields, one behind the other. Assumes nothing.
+-- `cue_texts::put_cue` meets its contract: three fields, one behind the other. Assumes nothing.
 use native.Mathlib.Omega.{arith}
-use Rattle.cues.proofs.Laws.{text-length, text-stored}
+use Rattle.cue_texts.proofs.Laws.{text-length, text-stored}
 use borrow.Author.Needs.{needs}
-use Rattle.cues.proofs.put_cue.Statement.{statement}
-use Rattle.cues.proofs.put_cue.Tie as tie
+use Rattle.cue_texts.proofs.put_cue.Statement.{statement}
+use Rattle.cue_texts.proofs.put_cue.Tie as tie
 
 cast-put-field : tie.Need-cast-put-field
 cast-put-field c = search needs

@@ -1,9 +1,9 @@
--- `cues::write_cue` meets its contract. Assumes nothing.
+-- `cue_texts::write_cue` meets its contract. Assumes nothing.
 use Rattle.buffers.proofs.Laws.{written, too-short, room, no-room}
-use Rattle.cues.specs.CueText.{cueText}
+use Rattle.cue_texts.specs.CueText.{cueText}
 use borrow.Author.Needs.{needs}
-use Rattle.cues.proofs.write_cue.Statement.{statement}
-use Rattle.cues.proofs.write_cue.Tie as tie
+use Rattle.cue_texts.proofs.write_cue.Statement.{statement}
+use Rattle.cue_texts.proofs.write_cue.Tie as tie
 
 cue-length-requires : tie.Need-cue-length-requires
 cue-length-requires c κs = search needs

@@ -1,9 +1,9 @@
--- `cues::read_cue` meets its contract. Assumes nothing.
+-- `cue_lines::read_cue` meets its contract. Assumes nothing.
 use mathlib.Core.Path.{sym, _∙_}
-use Rattle.cues.proofs.Laws.{line-malformed, line-in-range, line-out-of-range}
+use Rattle.cue_lines.proofs.Laws.{line-malformed, line-in-range, line-out-of-range}
 use borrow.Author.Needs.{needs}
-use Rattle.cues.proofs.read_cue.Statement.{statement}
-use Rattle.cues.proofs.read_cue.Tie as tie
+use Rattle.cue_lines.proofs.read_cue.Statement.{statement}
+use Rattle.cue_lines.proofs.read_cue.Tie as tie
 
 read-fields-requires : tie.Need-read-fields-requires
 read-fields-requires c κs = search needs

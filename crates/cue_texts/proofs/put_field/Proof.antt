@@ -1,11 +1,11 @@
--- `cues::put_field` meets its contract: the field fits, so its writer does not refuse. Assumes nothing.
+-- `cue_texts::put_field` meets its contract: the field fits, so its writer does not refuse. Assumes nothing.
 use Rattle.buffers.proofs.Answers.{put-there, not-refused}
 use Rattle.records.specs.Record.{fieldText}
 use borrow.Author.Needs.{needs}
-use Rattle.cues.proofs.put_field.Statement.{statement}
-use Rattle.cues.proofs.put_field.Tie as tie
-use Rattle.cues.proofs.put_field.Reads as reads
-use Rattle.cues.proofs.put_field.Lts as lts
+use Rattle.cue_texts.proofs.put_field.Statement.{statement}
+use Rattle.cue_texts.proofs.put_field.Tie as tie
+use Rattle.cue_texts.proofs.put_field.Reads as reads
+use Rattle.cue_texts.proofs.put_field.Lts as lts
 use Rattle.records.proofs.write_field.Reads as write-field-reads
 
 write-field-requires : tie.Need-write-field-requires

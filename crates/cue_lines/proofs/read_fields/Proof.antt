@@ -1,11 +1,11 @@
--- `cues::read_fields` meets its contract: two fields that end at a comma, and what is left. Assumes nothing.
+-- `cue_lines::read_fields` meets its contract: two fields that end at a comma, and what is left. Assumes nothing.
 use mathlib.Core.Path.{sym, _∙_}
 use native.Mathlib.Omega.{arith}
 use Rattle.numbers.proofs.FieldLaws.{field-fits}
-use Rattle.cues.proofs.Laws.{time-none, time-all, module-none, module-last, two-read, pin-none, three-read}
+use Rattle.cue_lines.proofs.Laws.{time-none, time-all, module-none, module-last, two-read, pin-none, three-read}
 use borrow.Author.Needs.{needs}
-use Rattle.cues.proofs.read_fields.Statement.{statement}
-use Rattle.cues.proofs.read_fields.Tie as tie
+use Rattle.cue_lines.proofs.read_fields.Statement.{statement}
+use Rattle.cue_lines.proofs.read_fields.Tie as tie
 
 read-field-requires : tie.Need-read-field-requires
 read-field-requires c κs = search needs

@@ -1,0 +1,2 @@
+pub mod CueText
+pub mod Theorems
