@@ -1,8 +1,8 @@
-// The closing lists: the script and the queue as the program prints them at the end, each its count and its cue lines in
-// order.
+// The closing lists: the script and the queue as the program prints them at the end, each its count and its cue lines
+// in order.
 //
-// They are written into a lent buffer, whole or not at all. A `requires` asks for what opening and stepping establish of
-// the store's words, and for nothing of the buffer.
+// They are written into a lent buffer, whole or not at all. A `requires` asks for what opening and stepping establish
+// of the store's words, and for nothing of the buffer.
 ghost use mathlib.Core.Path.{_≡_};
 ghost use Prim.Native.Nat.{_+_, _≤_};
 ghost use lib.ListN.{length};

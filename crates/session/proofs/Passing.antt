@@ -6,7 +6,6 @@ use mathlib.Core.Logic.{_⊎_, inl, inr}
 use Prim.Native.Nat.{ℕ, _+_, _-_, _≤_, _<_}
 use native.Mathlib.Omega.{arith}
 use lib.ListN.{length, take, drop}
-use lib.Seq.{sets}
 use Rattle.buffers.specs.Put.{Put}
 use Rattle.buffers.proofs.Puts.{put-room}
 use Rattle.lines.specs.Lines.{upTo, linesOf}

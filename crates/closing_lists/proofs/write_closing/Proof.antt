@@ -31,8 +31,8 @@ returns c =
     let n = o .before .closing-length .ensures .0 in
     let h = room _ _ _ _ _ (o .fits2 .ensures) (r .before .before .if1 .taken) n in
     let p = r .put-closing in
-    put-written (a .buf .now) (p .last .0) (closingText (stateOf (a .script .now) (a .queue .now))) (a .at) (p .result) h
-    (p .ensures)
+    let text = closingText (stateOf (a .script .now) (a .queue .now)) in
+    put-written (a .buf .now) (p .last .0) text (a .at) (p .result) h (p .ensures)
 
 returns-2 : tie.Need-returns-2
 returns-2 c =
