@@ -1,11 +1,9 @@
 -- The lock listing, written: the lines of the model's listing (`boosting`), each with its LF, one behind the other, in
 -- an order that is left open. Assumes nothing.
-use Prim.Native.Nat.{ℕ, _+_}
+use Prim.Native.Nat.{ℕ}
 use mathlib.Core.Path.{_≡_}
 use mathlib.Core.Bool.{Bool}
 use mathlib.Core.List.{List, map, Perm, flatten}
-use lib.ListN.{length}
-use lib.Seq.{sets}
 use Rattle.buffers.specs.Written.{writtenAt}
 use Rattle.buffers.specs.declared.Written.{Written}
 use Rattle.boosting.specs.Store.{Transaction}
@@ -18,10 +16,6 @@ pub record ListingWritten (ts : List Transaction) (at : ℕ) (before after : Lis
   pub lines : List (List ℕ)
   pub order : Perm lines (listingFrom 1 ts)
   pub written : (r, after) ≡ writtenAt before at (flatten lines)
-
--- a text stands at the place `at`, and `end` is the place behind it
-abbrev pub Put : List ℕ → ℕ → List ℕ → ℕ → List ℕ → Type 0
-Put before at text end after = (end ≡ at + length text) × (after ≡ sets before at text)
 
 -- the order that the program takes: the line of a mode of transaction e, if it is held; the lines of its cue locks, of
 -- its modes, of both, as its words show them; and the lines of all eight

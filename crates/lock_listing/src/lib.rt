@@ -7,13 +7,13 @@ ghost use mathlib.Core.Path.{_≡_};
 ghost use mathlib.Core.List.{_++_, map};
 ghost use Prim.Native.Nat.{_+_, _≤_};
 ghost use lib.ListN.{length};
+ghost use Rattle.buffers.specs.Put.{Put};
 ghost use Rattle.records.specs.Record.{fieldText};
 ghost use Rattle.boosting.specs.Listing.{lockLine};
 ghost use Rattle.transactions.specs.View.{WordsFit, transactionOf};
 ghost use Rattle.store_words.specs.Words.{TransactionsFit};
 ghost use Rattle.lock_listing.specs.Listed.{
   ListingWritten,
-  Put,
   modeText,
   locksText,
   modesText,

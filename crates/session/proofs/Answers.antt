@@ -5,7 +5,9 @@ use Prim.Native.Nat.{ℕ, _+_, _-_, _≤_, _<_}
 use native.Mathlib.Omega.{arith}
 use lib.ListN.{length, take, drop, length-append, length-drop}
 use lib.Seq.{sets}
+use Rattle.buffers.specs.Put.{Put}
 use Rattle.buffers.proofs.Laws.{sets-append}
+use Rattle.buffers.proofs.Puts.{put-room}
 use Rattle.lines.specs.Lines.{upTo, linesOf}
 use Rattle.lines.proofs.Laws.{up-le, lines-next, lines-end}
 use Rattle.answers.specs.Answer.{answerText}
@@ -14,8 +16,6 @@ use Rattle.boosting.specs.Store.{Store}
 use Rattle.boosting.specs.Step.{stepLine}
 use Rattle.boosting.specs.Run.{Event, begun, advance, runFrom, run, answerAt, answers}
 use Rattle.session.specs.Output.{answersText, answerLines}
-use Rattle.session.specs.Put.{Put}
-use Rattle.session.proofs.Puts.{put-room}
 
 -- ---- a run, one line more
 abbrev event : Store → List ℕ → Event

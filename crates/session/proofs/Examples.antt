@@ -24,8 +24,9 @@ use Rattle.boosting.specs.Rows.{firstMet, refusalOf}
 use Rattle.boosting.specs.Step.{accept, perform, stepOn, stepLine}
 use Rattle.boosting.specs.Run.{advance, runFrom}
 use Rattle.boosting.specs.Recovery.{rollBacks, recoverOne, recover, rising}
-use Rattle.session.specs.Division.{stepsPlace, startText, stepList}
-use Rattle.session.specs.Output.{answersText, closingText, runText, outputOf}
+use Rattle.inputs.specs.Division.{stepsPlace, startText, stepList}
+use Rattle.closing_lists.specs.Closing.{closingText}
+use Rattle.session.specs.Output.{answersText, runText, outputOf}
 
 -- an input, and its output
 abbrev pub examples : List (List ℕ × List ℕ)

@@ -4,7 +4,7 @@ use mathlib.Core.Bool.{Bool, true, false, cond}
 use mathlib.Core.List.{List, [], _∷_, _++_}
 use mathlib.Core.Logic.{_⊎_, inl, inr}
 use mathlib.Core.Option.{Option, none, some}
-use Prim.Native.Nat.{ℕ, zero, suc, _+_, _*_, _/_, _%_, _^_, _≤_, _<_}
+use Prim.Native.Nat.{ℕ, zero, suc, _+_, _*_, _/_, _%_, _≤_, _<_}
 use native.Mathlib.Omega.{arith}
 use lib.Dec.{ltb}
 use lib.ListN.{length, length-append, length-drop}
@@ -41,8 +41,6 @@ use Rattle.tables.proofs.Laws.{split}
 use Rattle.scripts.specs.declared.reading.Outcome.{Outcome}
 use Rattle.scripts.specs.declared.reading.Outcome.the-variants.{Accepted, Refused as RefusedText}
 use Rattle.scripts.specs.Script.{scriptOf}
-use Rattle.scripts.specs.ScriptText.{textOf}
-use Rattle.scripts.proofs.Theorems.{text-at-most, text-fits}
 use Rattle.steps.specs.declared.reading.Step.{Step}
 use Rattle.steps.specs.declared.reading.Step.the-variants.{
   Begin,
@@ -62,7 +60,7 @@ use Rattle.steps.specs.Step.{stepOf}
 use Rattle.steps.specs.StepText.{stepText}
 use Rattle.answers.specs.Answer.{refusalText, answerText}
 use Rattle.steps.proofs.Theorems.{step-read-is-canonical}
-use Rattle.boosting.specs.Object.{Reply, isYes, isNo, isOk, isEmpty, isCue, State, reply, answerOf}
+use Rattle.boosting.specs.Object.{Reply, isYes, isNo, isOk, isEmpty, isCue, reply, answerOf}
 use Rattle.boosting.specs.Undo.{Entry}
 use Rattle.boosting.specs.Store.{Store, opened, transaction}
 use Rattle.boosting.specs.Rows.{
@@ -81,13 +79,14 @@ use Rattle.boosting.specs.Rows.{
 use Rattle.boosting.specs.Step.{accept, undoNewest, perform, decided, stepOn, stepLine}
 use Rattle.boosting.specs.Recovery.{rising}
 use Rattle.boosting.specs.Sound.{Sound}
-use Rattle.boosting.proofs.Theorems.{opened-is-sound, run-keeps-sound, recovery-keeps-sound, sound-has-room}
+use Rattle.boosting.proofs.Theorems.{opened-is-sound, run-keeps-sound, recovery-keeps-sound}
 use Rattle.boosting.specs.Run.{run}
-use Rattle.session.specs.Division.{stepsPlace, startText, stepList}
+use Rattle.inputs.specs.Division.{stepsPlace, startText, stepList}
+use Rattle.inputs.proofs.Texts.{by-lines, lines-one}
+use Rattle.closing_lists.specs.Closing.{closingText}
+use Rattle.closing_lists.proofs.Fitting.{closing-fits}
 use Rattle.session.specs.Output.{
   answerLines,
-  listText,
-  closingText,
   recovered,
   runText,
   startRefused,
@@ -95,7 +94,6 @@ use Rattle.session.specs.Output.{
   outputOf,
 }
 use Rattle.session.specs.Theorems.{room, OutputFits}
-use Rattle.session.proofs.Texts.{by-lines, lines-one}
 use Rattle.session.proofs.Answers.{lines-answered, nothing-answered}
 
 -- ---- one answer
@@ -242,42 +240,6 @@ answers-more l r u hyp d =
 
 pub answers-fit : (s : List ℕ) → AnswersFit s
 answers-fit = by-lines AnswersFit answers-none answers-one answers-more
-
--- ---- the closing lists
-pub list-length : (word keys : List ℕ)
-    → length (listText word keys) ≡ length word + (length (digitsOf (length keys)) + 1) + length (textOf keys)
-list-length word keys =
-    omega (
-      arith,
-      length-append (word ++ fieldText (length keys) 10) (textOf keys),
-      length-append word (fieldText (length keys) 10),
-      field-length (length keys) 10,
-    )
-
-closing-length : (s : State)
-    → length (closingText s)
-    ≡ length (listText (bytes "script,") (s .script)) + length (listText (bytes "queue,") (s .queue))
-unfolding closingText
-closing-length s = length-append (listText (bytes "script,") (s .script)) (listText (bytes "queue,") (s .queue))
-
-pub closing-fits : (d : Store) → Sound d → length (closingText (d .state)) ≤ 4500
-closing-fits d v =
-    let s = d .state .script in
-    let q = d .state .queue in
-    let r = sound-has-room d v in
-    let a : length s < 10 ^ 3 = omega (arith, r .0 .at-most) in
-    let b : length q < 10 ^ 2 = omega (arith, r .1) in
-    omega (
-      arith,
-      closing-length (d .state),
-      list-length (bytes "script,") s,
-      list-length (bytes "queue,") q,
-      text-fits s (r .0),
-      text-at-most q (v .queue-in-range),
-      digits-at-most 2 19 (length s) a,
-      digits-at-most 1 19 (length q) b,
-      r .1,
-    )
 
 -- ---- the whole output
 pub run-length : (d : Store) (ls : List (List ℕ))

@@ -1,10 +1,7 @@
 pub mod Answers
-pub mod Division
 pub mod Examples
 pub mod Fitting
-pub mod Lists
 pub mod Outcomes
 pub mod Passing
-pub mod Puts
 pub mod Texts
 pub mod Theorems

@@ -21,10 +21,11 @@ use Rattle.boosting.specs.Store.{Store, opened}
 use Rattle.boosting.specs.Run.{run}
 use Rattle.boosting.specs.Recovery.{recover, rising}
 use Rattle.store_words.specs.Words.{storeOf}
+use Rattle.inputs.specs.Division.{startText, stepList}
+use Rattle.closing_lists.specs.Closing.{closingText}
 use Rattle.session.specs.declared.starting.Start.{Start}
 use Rattle.session.specs.declared.starting.Start.the-variants.{Steps, Refused as RefusedStart}
-use Rattle.session.specs.Division.{startText, stepList}
-use Rattle.session.specs.Output.{answerLines, closingText, recovered, runText, startRefused, outputOf}
+use Rattle.session.specs.Output.{answerLines, recovered, runText, startRefused, outputOf}
 use Rattle.session.specs.Started.{Running, Started}
 use Rattle.session.proofs.Fitting.{run-length, refused-length}
 

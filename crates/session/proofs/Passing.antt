@@ -6,7 +6,8 @@ use mathlib.Core.Logic.{_⊎_, inl, inr}
 use Prim.Native.Nat.{ℕ, _+_, _-_, _≤_, _<_}
 use native.Mathlib.Omega.{arith}
 use lib.ListN.{length, take, drop}
-use lib.Seq.{sets}
+use Rattle.buffers.specs.Put.{Put}
+use Rattle.buffers.proofs.Puts.{put-room}
 use Rattle.lines.specs.Lines.{upTo, linesOf}
 use Rattle.steps.specs.Step.{stepOf}
 use Rattle.steps.specs.declared.reading.Step.{Step}
@@ -18,7 +19,6 @@ use Rattle.boosting.specs.Step.{stepOn, stepLine}
 use Rattle.boosting.specs.Run.{run}
 use Rattle.session.specs.Output.{answerLines}
 use Rattle.session.specs.Answering.{RoomFor, Kept}
-use Rattle.session.specs.Put.{Put}
 use Rattle.session.proofs.Answers.{
   Stepping,
   stepping-none,
@@ -32,7 +32,6 @@ use Rattle.session.proofs.Answers.{
   answer-room,
 }
 use Rattle.session.proofs.Fitting.{line-at-most, answers-fit}
-use Rattle.session.proofs.Puts.{put-room}
 
 -- a step that was read from a line does what the line does
 pub as-the-line : (d : Store) (x : Step) (line : List ℕ) → x ≡ stepOf line → stepOn d (requestOf x) ≡ stepLine d line

@@ -10,13 +10,13 @@ use Rattle.boosting.specs.Store.{Store, opened}
 use Rattle.boosting.specs.Step.{stepLine}
 use Rattle.answers.proofs.Theorems.{answer-line-one-lf}
 use Rattle.boosting.proofs.Theorems.{term-3-rising}
-use Rattle.session.specs.Division.{startText, stepList}
-use Rattle.session.specs.Output.{answerLines, closingText, runText}
+use Rattle.inputs.specs.Division.{startText, stepList}
+use Rattle.closing_lists.specs.Closing.{closingText}
+use Rattle.session.specs.Output.{answerLines, runText}
 use Rattle.session.specs.Theorems.{OneLineAStep, startScript, ClosingIsReplay}
 use Rattle.session.proofs.Outcomes.{output-accepted}
 use Rattle.session.proofs.Texts.{one-line}
 use Rattle.session.proofs.Answers.{lines-answered, nothing-answered}
-pub use Rattle.session.proofs.Division.{divided-at-steps}
 pub use Rattle.session.proofs.Fitting.{output-fits}
 
 -- ---- the closing lists are the replay's

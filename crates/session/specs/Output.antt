@@ -10,18 +10,17 @@ use Rattle.refusals.specs.declared.Refusal.{Refusal}
 use Rattle.refusals.specs.declared.Refusal.the-variants.{TextTooLong}
 use Rattle.lines.specs.Ascii.{bytes}
 use Rattle.lines.specs.Lines.{linesOf}
-use Rattle.records.specs.Record.{fieldText, recordText}
+use Rattle.records.specs.Record.{recordText}
 use Rattle.scripts.specs.declared.reading.Outcome.{Outcome}
 use Rattle.scripts.specs.declared.reading.Outcome.the-variants.{Accepted, Refused}
 use Rattle.scripts.specs.Script.{scriptOf}
-use Rattle.scripts.specs.ScriptText.{textOf}
 use Rattle.answers.specs.Answer.{answerText}
 use Rattle.answers.specs.declared.Answer.{Answer}
-use Rattle.boosting.specs.Object.{State}
 use Rattle.boosting.specs.Store.{Store, opened}
 use Rattle.boosting.specs.Run.{run, answers}
 use Rattle.boosting.specs.Recovery.{recover, rising}
-use Rattle.session.specs.Division.{startText, stepList}
+use Rattle.inputs.specs.Division.{startText, stepList}
+use Rattle.closing_lists.specs.Closing.{closingText}
 
 unfoldable pub answersText : List Answer → List ℕ
 answersText [] = []
@@ -30,13 +29,6 @@ answersText (a ∷ rest) = answerText a ++ answersText rest
 -- one answer line a step, from a store on
 abbrev pub answerLines : Store → List (List ℕ) → List ℕ
 answerLines d lines = answersText (answers d lines)
-
--- `word,n` with its LF (10), and n cue lines in order; the word ends with its comma
-abbrev pub listText : List ℕ → List ℕ → List ℕ
-listText word keys = (word ++ fieldText (length keys) 10) ++ textOf keys
-
-unfoldable pub closingText : State → List ℕ
-closingText s = listText (bytes "script,") (s .script) ++ listText (bytes "queue,") (s .queue)
 
 -- the store after all steps, recovered with rising numbers
 abbrev pub recovered : Store → List (List ℕ) → Store

@@ -1,8 +1,7 @@
--- What holds of the program's input and output; proved in `proofs/Theorems.antt`. Assumes nothing.
+-- What holds of the program's output; proved in `proofs/Theorems.antt`. Assumes nothing.
 use Prim.Native.Nat.{ℕ, _≤_}
 use mathlib.Core.Path.{_≡_}
-use mathlib.Core.Bool.{cond}
-use mathlib.Core.List.{List, [], _∷_, _++_}
+use mathlib.Core.List.{List, _++_}
 use lib.ListN.{length}
 use Rattle.lines.specs.Lines.{linesOf}
 use Rattle.scripts.specs.declared.reading.Outcome.the-variants.{Accepted}
@@ -10,25 +9,9 @@ use Rattle.scripts.specs.Script.{scriptOf}
 use Rattle.boosting.specs.Store.{started, opened}
 use Rattle.boosting.specs.Run.{Event, run}
 use Rattle.boosting.specs.Replay.{replay, replies, fed, heard}
-use Rattle.session.specs.Division.{isSteps, startText, stepList}
-use Rattle.session.specs.Output.{answerLines, closingText, outputOf}
-
--- ---- the two parts of the input
--- the lines before the first line `steps`, and those behind it; all lines and none where there is no such line
-unfoldable pub before : List (List ℕ) → List (List ℕ)
-before [] = []
-before (l ∷ ls) = cond (isSteps l) [] (l ∷ before ls)
-
-unfoldable pub behind : List (List ℕ) → List (List ℕ)
-behind [] = []
-behind (l ∷ ls) = cond (isSteps l) ls (behind ls)
-
-pub record Divided (s : List ℕ) : Type 0 where
-  pub start : linesOf (startText s) ≡ before (linesOf s)
-  pub steps : linesOf (stepList s) ≡ behind (linesOf s)
-
-abbrev pub DividedAtSteps : Type 0
-DividedAtSteps = (s : List ℕ) → Divided s
+use Rattle.inputs.specs.Division.{startText, stepList}
+use Rattle.closing_lists.specs.Closing.{closingText}
+use Rattle.session.specs.Output.{answerLines, outputOf}
 
 -- ---- one answer line a step
 abbrev pub OneLineAStep : Type 0

@@ -4,8 +4,6 @@
 // recovery the script and the queue; or one line that says why the session does not start. No public function has a
 // `requires`.
 mod answering;
-mod closing;
-mod dividing;
 mod running;
 mod starting;
 

@@ -2,20 +2,20 @@
 ghost use mathlib.Core.Path.{_≡_};
 ghost use Prim.Native.Nat.{_≤_};
 ghost use lib.ListN.{length};
+ghost use Rattle.buffers.specs.Put.{Put};
 ghost use Rattle.buffers.specs.Written.{writtenAt};
 ghost use Rattle.lines.specs.Lines.{linesOf};
 ghost use Rattle.store_words.specs.Words.{storeOf, StoreFits};
 ghost use Rattle.session.specs.Output.{runText, outputOf};
-ghost use Rattle.session.specs.Put.{Put};
 use crate::answering::answers_length;
 use crate::answering::put_answers;
-use crate::closing::closing_length;
-use crate::closing::put_closing;
 use crate::starting::Start;
 use crate::starting::put_refused;
 use crate::starting::refused_length;
 use crate::starting::start_session;
 use buffers::Written;
+use closing_lists::closing_length;
+use closing_lists::write_closing;
 use refusals::Refusal;
 use store::recover;
 
@@ -39,7 +39,10 @@ fn put_run(
 {
     let middle = put_answers(buf, script, queue, ts, text);
     recover(script, queue, ts);
-    put_closing(buf, middle, script, queue)
+    let Written::Upto(end) = write_closing(buf, middle, script, queue) else {
+        return middle;
+    };
+    end
 }
 
 // How many bytes that are.

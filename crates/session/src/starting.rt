@@ -2,13 +2,13 @@
 ghost use mathlib.Core.Path.{_≡_};
 ghost use Prim.Native.Nat.{_≤_};
 ghost use lib.ListN.{length};
+ghost use Rattle.buffers.specs.Put.{Put};
 ghost use Rattle.store.specs.Sized.{Sized};
 ghost use Rattle.session.specs.Output.{startRefused};
-ghost use Rattle.session.specs.Put.{Put};
 ghost use Rattle.session.specs.Started.{Started};
-use crate::dividing::find_steps;
-use crate::dividing::steps_from;
 use buffers::Written;
+use inputs::find_steps;
+use inputs::steps_from;
 use numbers::digit_count;
 use records::write_record;
 use refusals::Refusal;

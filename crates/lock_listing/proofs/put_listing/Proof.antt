@@ -6,10 +6,10 @@ use Prim.Native.Nat.{_+_, _-_, _≤_}
 use native.Mathlib.Omega.{arith}
 use lib.ListN.{length, getD}
 use lib.Seq.{sets}
+use Rattle.buffers.proofs.Puts.{first-fits, rest-ends, rest-stored}
 use Rattle.store_words.proofs.Places.{fit-at}
 use Rattle.lock_listing.specs.Listed.{transactionText, listingText}
 use Rattle.lock_listing.proofs.Listings.{listingAfter, listing-more, listing-over}
-use Rattle.lock_listing.proofs.Puts.{first-fits, rest-ends, rest-stored}
 use borrow.Author.Needs.{needs}
 use Rattle.lock_listing.proofs.put_listing.Statement.{statement}
 use Rattle.lock_listing.proofs.put_listing.Tie as tie
@@ -81,7 +81,10 @@ returns c =
     let l = c .before .loop in
     let s = c .before .before .before in
     let q = listing-over (s .args .ts .now) (l .i) (omega (arith, s .pre .0 .eight)) in
-    (omega (arith, ap length q, l .inv .2), ap (sets (l .buf) (l .end)) (sym q) ∙ l .inv .3)
+    record {
+      place = omega (arith, ap length q, l .inv .2);
+      stored = ap (sets (l .buf) (l .end)) (sym q) ∙ l .inv .3;
+    }
 
 pub put-listing-spec : {M : Type 1} → statement M
 put-listing-spec =

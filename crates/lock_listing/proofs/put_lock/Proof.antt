@@ -6,12 +6,12 @@ use Prim.Native.Nat.{ℕ}
 use Rattle.lines.specs.Ascii.{bytes}
 use Rattle.buffers.specs.Written.{writtenAt}
 use Rattle.buffers.specs.declared.Written.{Written}
+use Rattle.buffers.proofs.Puts.{first-fits, rest-refused, rest-written}
 use Rattle.records.specs.Record.{fieldText}
 use Rattle.cues.specs.Cue.{cueOf}
 use Rattle.cue_texts.specs.CueText.{cueText}
 use Rattle.cues.specs.declared.Cue.{Cue}
 use Rattle.boosting.specs.Listing.{lockLine}
-use Rattle.lock_listing.proofs.Puts.{first-fits, rest-refused, rest-written}
 use borrow.Author.Needs.{needs}
 use Rattle.lock_listing.proofs.put_lock.Statement.{statement}
 use Rattle.lock_listing.proofs.put_lock.Tie as tie

@@ -5,10 +5,10 @@ use Prim.Native.Nat.{_+_, _-_, _≤_}
 use native.Mathlib.Omega.{arith}
 use lib.ListN.{length, getD}
 use lib.Seq.{sets}
+use Rattle.buffers.proofs.Puts.{first-fits, rest-ends, rest-stored}
 use Rattle.boosting.specs.Listing.{lockLine}
 use Rattle.lock_listing.specs.Listed.{locksText}
 use Rattle.lock_listing.proofs.Listings.{locksFrom, locks-more, locks-over}
-use Rattle.lock_listing.proofs.Puts.{first-fits, rest-ends, rest-stored}
 use borrow.Author.Needs.{needs}
 use Rattle.lock_listing.proofs.put_locks.Statement.{statement}
 use Rattle.lock_listing.proofs.put_locks.Tie as tie
@@ -80,7 +80,10 @@ returns c =
     let s = c .before .before .before .before in
     let a = s .args in
     let q = locks-over (a .e) (a .t .now) (s .pre .0) (l .j) (omega arith) in
-    (omega (arith, ap length q, l .inv .3), ap (sets (l .buf) (l .end)) (sym q) ∙ l .inv .4)
+    record {
+      place = omega (arith, ap length q, l .inv .3);
+      stored = ap (sets (l .buf) (l .end)) (sym q) ∙ l .inv .4;
+    }
 
 pub put-locks-spec : {M : Type 1} → statement M
 put-locks-spec =

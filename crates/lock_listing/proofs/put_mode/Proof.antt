@@ -6,10 +6,10 @@ use native.Mathlib.Omega.{arith}
 use lib.ListN.{length}
 use lib.Seq.{sets}
 use Rattle.lines.specs.Ascii.{bytes}
+use Rattle.buffers.proofs.Puts.{first-fits, rest-refused, rest-written}
 use Rattle.records.specs.Record.{fieldText}
 use Rattle.lock_listing.specs.Listed.{modeText}
 use Rattle.lock_listing.proofs.Listings.{held-text, unheld-text}
-use Rattle.lock_listing.proofs.Puts.{first-fits, rest-refused, rest-written}
 use borrow.Author.Needs.{needs}
 use Rattle.lock_listing.proofs.put_mode.Statement.{statement}
 use Rattle.lock_listing.proofs.put_mode.Tie as tie
@@ -72,7 +72,7 @@ returns-3 : tie.Need-returns-3
 returns-3 c =
     let a = c .before .before .before .args in
     let q = unheld-text (a .e) (a .held) (a .word .now) (c .if1 .left) in
-    (omega (arith, ap length q), ap (sets (a .buf .now) (a .at)) (sym q))
+    record { place = omega (arith, ap length q); stored = ap (sets (a .buf .now) (a .at)) (sym q) }
 
 pub put-mode-spec : {M : Type 1} → statement M
 put-mode-spec =

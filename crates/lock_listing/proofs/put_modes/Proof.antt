@@ -3,10 +3,10 @@ use mathlib.Core.Path.{refl}
 use mathlib.Core.List.{_++_}
 use Prim.Native.Nat.{_+_, _≤_}
 use lib.ListN.{length}
+use Rattle.buffers.proofs.Puts.{first-fits, rest-fits, both-put}
 use Rattle.transactions.specs.View.{locksOf}
 use Rattle.lock_listing.specs.Listed.{modesText}
 use Rattle.lock_listing.proofs.Listings.{pushText, lookText, takeText, modes-text}
-use Rattle.lock_listing.proofs.Puts.{first-fits, rest-fits, both-put}
 use borrow.Author.Needs.{needs}
 use Rattle.lock_listing.proofs.put_modes.Statement.{statement}
 use Rattle.lock_listing.proofs.put_modes.Tie as tie

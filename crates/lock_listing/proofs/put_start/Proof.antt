@@ -2,9 +2,9 @@
 use mathlib.Core.Path.{refl}
 use mathlib.Core.List.{_++_}
 use Rattle.records.specs.Record.{fieldText}
-use Rattle.buffers.proofs.Answers.{put-there, not-refused}
-use Rattle.lock_listing.specs.Listed.{Put}
-use Rattle.lock_listing.proofs.Puts.{first-fits, rest-refused, rest-written}
+use Rattle.buffers.specs.Put.{Put}
+use Rattle.buffers.proofs.Answers.{not-refused}
+use Rattle.buffers.proofs.Puts.{first-fits, rest-refused, rest-written, wrote}
 use borrow.Author.Needs.{needs}
 use Rattle.lock_listing.proofs.put_start.Statement.{statement}
 use Rattle.lock_listing.proofs.put_start.Tie as tie
@@ -21,7 +21,7 @@ word-put m =
     let w = o .write-bytes in
     let text = a .word .now ++ fieldText (a .e) 44 in
     let h = first-fits (a .buf .now) (a .word .now) (fieldText (a .e) 44) text (a .at) refl (s .pre) in
-    put-there (a .buf .now) (w .last .0) (a .word .now) (w .result) (a .at) _ h (w .ensures) (m .middle .given .1)
+    wrote (a .buf .now) (w .last .0) (a .word .now) (w .result) (a .at) _ h (w .ensures) (m .middle .given .1)
 
 write-bytes-requires : tie.Need-write-bytes-requires
 write-bytes-requires c κs = search needs

@@ -1,7 +1,7 @@
 -- `lock_listing::put_transaction` meets its contract: the cue locks, then the modes. Assumes nothing.
+use Rattle.buffers.proofs.Puts.{first-fits, rest-fits, both-put}
 use Rattle.lock_listing.specs.Listed.{locksText, modesText, transactionText}
 use Rattle.lock_listing.proofs.Listings.{transaction-text}
-use Rattle.lock_listing.proofs.Puts.{first-fits, rest-fits, both-put}
 use borrow.Author.Needs.{needs}
 use Rattle.lock_listing.proofs.put_transaction.Statement.{statement}
 use Rattle.lock_listing.proofs.put_transaction.Tie as tie

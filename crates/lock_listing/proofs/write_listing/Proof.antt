@@ -4,7 +4,8 @@ use mathlib.Core.List.{List, map, Perm·refl}
 use Prim.Native.Nat.{ℕ}
 use Rattle.buffers.specs.Written.{writtenAt}
 use Rattle.buffers.specs.declared.Written.{Written}
-use Rattle.buffers.proofs.Laws.{written, too-short, room, no-room}
+use Rattle.buffers.proofs.Laws.{too-short, room, no-room}
+use Rattle.buffers.proofs.Puts.{put-written}
 use Rattle.boosting.specs.Listing.{listingFrom}
 use Rattle.transactions.specs.View.{transactionOf}
 use Rattle.lock_listing.specs.Listed.{ListingWritten, listingText}
@@ -45,7 +46,7 @@ returns c =
     let p = r .put-listing in
     let text = listingText (a .ts .now) in
     in-order (a .ts .now) (a .at) (a .buf .now) (p .last .0) _
-    (written (a .buf .now) (p .last .0) text (a .at) (p .result) h (p .ensures .0) (p .ensures .1))
+    (put-written (a .buf .now) (p .last .0) text (a .at) (p .result) h (p .ensures))
 
 returns-2 : tie.Need-returns-2
 returns-2 c =

@@ -2,11 +2,12 @@
 -- store on and behind those that were given, are all answers. Assumes nothing.
 use Prim.Native.Nat.{ℕ, _+_, _-_, _≤_, _<_}
 use mathlib.Core.Path.{_≡_, refl, ap, _∙_}
-use mathlib.Core.Bool.{cond}
 use mathlib.Core.Logic.{_⊎_, inl, inr}
 use native.Mathlib.Omega.{arith}
 use lib.ListN.{length, take, drop}
+use Rattle.buffers.specs.Put.{Put}
 use Rattle.buffers.proofs.Answers.{not-refused}
+use Rattle.buffers.proofs.Puts.{wrote}
 use Rattle.answers.specs.Answer.{answerText}
 use Rattle.boosting.specs.Step.{Out, stepLine}
 use Rattle.store_words.specs.Words.{storeOf, StoreFits}
@@ -20,8 +21,6 @@ use Rattle.session.proofs.Passing.{
   passing-more,
   passing-all,
 }
-use Rattle.session.specs.Put.{Put}
-use Rattle.session.proofs.Puts.{wrote}
 use borrow.Author.Needs.{needs}
 use Rattle.session.proofs.answering.answer_lines.Statement.{statement}
 use Rattle.session.proofs.answering.answer_lines.Tie as tie

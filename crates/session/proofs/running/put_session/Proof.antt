@@ -2,10 +2,10 @@
 use mathlib.Core.Path.{_≡_, ap}
 use native.Mathlib.Omega.{arith}
 use lib.ListN.{length}
+use Rattle.buffers.proofs.Puts.{put-as}
 use Rattle.session.specs.Output.{startRefused, outputOf}
 use Rattle.session.specs.Started.{Running}
 use Rattle.session.proofs.Outcomes.{starts-refused, starts-running, part-prints}
-use Rattle.session.proofs.Puts.{put-as}
 use borrow.Author.Needs.{needs}
 use Rattle.session.proofs.running.put_session.Statement.{statement}
 use Rattle.session.proofs.running.put_session.Tie as tie

@@ -5,9 +5,9 @@ use native.Mathlib.Omega.{arith}
 use lib.ListN.{length}
 use borrow.Author.Tests.{ltb-true, ltb-false}
 use Rattle.buffers.proofs.Laws.{too-short}
+use Rattle.buffers.proofs.Puts.{put-written}
 use Rattle.session.specs.Output.{outputOf}
 use Rattle.session.proofs.Fitting.{output-fits}
-use Rattle.session.proofs.Puts.{put-written}
 use borrow.Author.Needs.{needs}
 use Rattle.session.proofs.running.run_session.Statement.{statement}
 use Rattle.session.proofs.running.run_session.Tie as tie

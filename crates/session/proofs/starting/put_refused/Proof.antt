@@ -2,9 +2,9 @@
 use mathlib.Core.Path.{ap, _∙_}
 use Rattle.buffers.specs.Written.{writtenAt}
 use Rattle.buffers.proofs.Answers.{not-refused}
+use Rattle.buffers.proofs.Puts.{wrote}
 use Rattle.session.specs.Output.{startRefused}
 use Rattle.session.proofs.Outcomes.{refused-text}
-use Rattle.session.proofs.Puts.{wrote}
 use native.Mathlib.Omega.{arith}
 use borrow.Author.Needs.{needs}
 use Rattle.session.proofs.starting.put_refused.Statement.{statement}

@@ -5,7 +5,7 @@ use Prim.Native.Nat.{_≤_}
 use native.Mathlib.Omega.{arith}
 use lib.ListN.{length}
 use lib.Seq.{length-take-le}
-use Rattle.session.proofs.Division.{start-part, list-part}
+use Rattle.inputs.proofs.Division.{start-part, list-part}
 use Rattle.session.proofs.Outcomes.{output-long, output-refused, output-run}
 use borrow.Author.Needs.{needs}
 use Rattle.session.proofs.starting.start_session.Statement.{statement}

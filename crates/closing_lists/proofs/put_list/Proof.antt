@@ -1,14 +1,14 @@
--- `session::closing::put_list` meets its contract: both parts fit, so no writer refuses. Assumes nothing.
+-- `closing_lists::put_list` meets its contract: both parts fit, so no writer refuses. Assumes nothing.
 use mathlib.Core.List.{_++_}
+use Rattle.buffers.proofs.Puts.{put-as}
 use Rattle.records.specs.Record.{fieldText}
 use Rattle.scripts.specs.Script.{keysIn}
 use Rattle.scripts.specs.ScriptText.{textOf}
 use Rattle.word_lines.proofs.Parts.{first-refused, second-refused, both-put}
-use Rattle.session.proofs.Lists.{counted-text, counted-fits}
-use Rattle.session.proofs.Puts.{put-as}
+use Rattle.closing_lists.proofs.Lists.{counted-text, counted-fits}
 use borrow.Author.Needs.{needs}
-use Rattle.session.proofs.closing.put_list.Statement.{statement}
-use Rattle.session.proofs.closing.put_list.Tie as tie
+use Rattle.closing_lists.proofs.put_list.Statement.{statement}
+use Rattle.closing_lists.proofs.put_list.Tie as tie
 
 write-number-line-requires : tie.Need-write-number-line-requires
 write-number-line-requires c κs = search needs

@@ -1,8 +1,8 @@
--- `session::closing::put_closing` meets its contract: one list behind the other. Assumes nothing.
-use Rattle.session.proofs.Lists.{script-count, script-fits, queue-count, queue-fits, closing-put}
+-- `closing_lists::put_closing` meets its contract: one list behind the other. Assumes nothing.
+use Rattle.closing_lists.proofs.Lists.{script-count, script-fits, queue-count, queue-fits, closing-put}
 use borrow.Author.Needs.{needs}
-use Rattle.session.proofs.closing.put_closing.Statement.{statement}
-use Rattle.session.proofs.closing.put_closing.Tie as tie
+use Rattle.closing_lists.proofs.put_closing.Statement.{statement}
+use Rattle.closing_lists.proofs.put_closing.Tie as tie
 
 slice-aggregate-put-list : tie.Need-slice-aggregate-put-list
 slice-aggregate-put-list c = search needs

@@ -11,9 +11,9 @@ use Rattle.lines.specs.Ascii.{bytes}
 use Rattle.lines.specs.Lines.{upTo, linesOf}
 use Rattle.lines.proofs.Laws.{lines-next, lines-end, lines-append, lt-or-ge}
 use Rattle.steps.proofs.Words.{same-true}
-use Rattle.session.specs.Division.{isSteps, stepsPlace, startText, stepList}
-use Rattle.session.specs.Theorems.{before, behind, DividedAtSteps}
-use Rattle.session.proofs.Texts.{by-lines, lines-one, line-length}
+use Rattle.inputs.specs.Division.{isSteps, stepsPlace, startText, stepList}
+use Rattle.inputs.specs.Theorems.{before, behind, DividedAtSteps}
+use Rattle.inputs.proofs.Texts.{by-lines, lines-one, line-length}
 
 -- ---- one line
 steps-here : (l : List ℕ) (ls : List (List ℕ)) → isSteps l ≡ true → stepsPlace (l ∷ ls) ≡ 0

@@ -1,13 +1,20 @@
-// The closing lists: the script and the queue, each its count and its cue lines in order.
+// The closing lists: the script and the queue as the program prints them at the end, each its count and its cue lines
+// in order.
+//
+// They are written into a lent buffer, whole or not at all. A `requires` asks for what opening and stepping establish
+// of the store's words, and for nothing of the buffer.
 ghost use mathlib.Core.Path.{_≡_};
 ghost use Prim.Native.Nat.{_+_, _≤_};
 ghost use lib.ListN.{length};
+ghost use Rattle.buffers.specs.Put.{Put};
+ghost use Rattle.buffers.specs.Written.{writtenAt};
 ghost use Rattle.scripts.specs.Script.{keysIn};
 ghost use Rattle.store_words.specs.Words.{stateOf, ScriptFits, QueueFits};
-ghost use Rattle.session.specs.Output.{listText, closingText};
-ghost use Rattle.session.specs.Put.{Put};
+ghost use Rattle.closing_lists.specs.Closing.{listText, closingText};
 use buffers::Written;
+use buffers::fits;
 use numbers::digit_count;
+use refusals::Refusal;
 use script_texts::cues_length;
 use script_texts::write_cues;
 use store_words::QUEUE_COUNT;
@@ -40,7 +47,7 @@ fn list_length(word: &[u8], keys: &[u64], n: usize) -> usize
 }
 
 // Puts both lists at a place where they fit.
-pub fn put_closing(buf: &mut [u8], at: usize, script: &[u64; 257], queue: &[u64; 65]) -> usize
+fn put_closing(buf: &mut [u8], at: usize, script: &[u64; 257], queue: &[u64; 65]) -> usize
     requires { ⌜ ScriptFits (now script) × QueueFits (now queue)
         × (at + length (closingText (stateOf (now script) (now queue))) ≤ length (now buf)) ⌝ }
     ensures { λ r. ⌜ Put (now (buf .entry)) at (closingText (stateOf (now (script .entry)) (now (queue .entry)))) r
@@ -58,4 +65,17 @@ pub fn closing_length(script: &[u64; 257], queue: &[u64; 65]) -> usize
 {
     list_length(b"script,", script, script[SCRIPT_COUNT] as usize)
         + list_length(b"queue,", queue, queue[QUEUE_COUNT] as usize)
+}
+
+// Writes both lists at a place of the buffer, if they fit there.
+pub fn write_closing(buf: &mut [u8], at: usize, script: &[u64; 257], queue: &[u64; 65]) -> Written
+    requires { ⌜ ScriptFits (now script) × QueueFits (now queue) ⌝ }
+    ensures { λ r. ⌜ (r, now (buf .exit))
+        ≡ writtenAt (now (buf .entry)) at (closingText (stateOf (now (script .entry)) (now (queue .entry)))) ⌝ }
+{
+    if fits(buf.len(), at, closing_length(script, queue)) {
+        let end = put_closing(buf, at, script, queue);
+        return Written::Upto(end);
+    }
+    Written::Refused(Refusal::BufferTooShort)
 }

@@ -1,9 +1,11 @@
-// The input, divided at its first line `steps`.
+// The program's input, divided at its first line `steps`: the start script before it, the step list behind it.
+//
+// Both parts are read where they stand, so a division is two places of the input. No public function has a `requires`.
 ghost use mathlib.Core.Path.{_≡_};
 ghost use Prim.Native.Nat.{_+_, min};
 ghost use lib.ListN.{length};
 ghost use Rattle.lines.specs.Lines.{linesOf};
-ghost use Rattle.session.specs.Division.{stepsPlace};
+ghost use Rattle.inputs.specs.Division.{stepsPlace};
 use buffers::fits;
 use lines::find_byte;
 use steps::same_bytes;

@@ -6,16 +6,16 @@ use Prim.Native.Nat.{ℕ, _+_, _≤_}
 use native.Mathlib.Omega.{arith}
 use lib.ListN.{length, take, getD, length-append}
 use lib.Seq.{take-take, length-take-le}
+use Rattle.buffers.specs.Put.{Put}
+use Rattle.buffers.proofs.Puts.{first-fits, rest-fits, both-put}
 use Rattle.lines.specs.Ascii.{bytes}
 use Rattle.numbers.specs.Digits.{digitsOf}
 use Rattle.records.specs.Record.{fieldText}
 use Rattle.scripts.specs.Script.{keysIn}
 use Rattle.scripts.specs.ScriptText.{textOf}
 use Rattle.store_words.specs.Words.{scriptIn, stateOf, ScriptFits, QueueFits}
-use Rattle.session.specs.Output.{listText, closingText}
-use Rattle.session.specs.Put.{Put}
-use Rattle.session.proofs.Fitting.{list-length}
-use Rattle.session.proofs.Puts.{put-as, put-both, second-room}
+use Rattle.closing_lists.specs.Closing.{listText, closingText}
+use Rattle.closing_lists.proofs.Fitting.{list-length}
 
 -- ---- one list
 -- with the count that the code writes
@@ -62,13 +62,14 @@ module _ (s q : List ℕ) (fs : ScriptFits s) (fq : QueueFits q) where
   queueList = listText (bytes "queue,") queueKeys
 
   -- the two lists are the closing text
-  closing-text : scriptList ++ queueList ≡ closingText (stateOf s q)
+  closing-text : closingText (stateOf s q) ≡ scriptList ++ queueList
   unfolding closingText
   closing-text =
       let a = keys-taken s (getD s 256 0) (fs .count-le) in
       let b = keys-taken q (getD q 64 0) (omega (arith, fq .count-le)) in
-      ap (λ (x : List ℕ). listText (bytes "script,") x ++ queueList) a
-      ∙ ap (λ (x : List ℕ). listText (bytes "script,") (scriptIn s) ++ listText (bytes "queue,") x) b
+      sym
+      (ap (λ (x : List ℕ). listText (bytes "script,") x ++ queueList) a
+      ∙ ap (λ (x : List ℕ). listText (bytes "script,") (scriptIn s) ++ listText (bytes "queue,") x) b)
 
   pub closing-counted : (m n : ℕ) → m ≡ length scriptList → n ≡ length queueList
       → m + n ≡ length (closingText (stateOf s q))
@@ -76,17 +77,15 @@ module _ (s q : List ℕ) (fs : ScriptFits s) (fq : QueueFits q) where
       let e = ap length closing-text in omega (arith, length-append scriptList queueList, e)
 
   module _ (buf : List ℕ) (at : ℕ) (h : at + length (closingText (stateOf s q)) ≤ length buf) where
-    both-fit : at + length (scriptList ++ queueList) ≤ length buf
-    both-fit = omega (arith, ap length closing-text)
-
     pub script-fits : at + length scriptList ≤ length buf
-    script-fits = omega (arith, length-append scriptList queueList, both-fit)
+    script-fits = first-fits buf scriptList queueList (closingText (stateOf s q)) at closing-text h
 
     pub queue-fits : (mid : List ℕ) (middle : ℕ) → Put buf at scriptList middle mid
         → middle + length queueList ≤ length mid
-    queue-fits mid middle p = second-room buf mid scriptList queueList at middle both-fit p
+    queue-fits mid middle p =
+        rest-fits buf scriptList queueList (closingText (stateOf s q)) at closing-text mid middle p h
 
     pub closing-put : (mid after : List ℕ) (middle end : ℕ) → Put buf at scriptList middle mid
         → Put mid middle queueList end after → Put buf at (closingText (stateOf s q)) end after
     closing-put mid after middle end p r =
-        put-as buf after _ _ at end closing-text (put-both buf mid after scriptList queueList at middle end p r)
+        both-put buf scriptList queueList (closingText (stateOf s q)) at closing-text mid middle p after end r

@@ -1,9 +1,9 @@
--- `session::closing::closing_length` meets its contract. Assumes nothing.
+-- `closing_lists::closing_length` meets its contract. Assumes nothing.
 use native.Mathlib.Omega.{arith}
-use Rattle.session.proofs.Lists.{script-count, queue-count, closing-counted}
+use Rattle.closing_lists.proofs.Lists.{script-count, queue-count, closing-counted}
 use borrow.Author.Needs.{needs}
-use Rattle.session.proofs.closing.closing_length.Statement.{statement}
-use Rattle.session.proofs.closing.closing_length.Tie as tie
+use Rattle.closing_lists.proofs.closing_length.Statement.{statement}
+use Rattle.closing_lists.proofs.closing_length.Tie as tie
 
 slice-aggregate-list-length : tie.Need-slice-aggregate-list-length
 slice-aggregate-list-length c = search needs

@@ -1,10 +1,10 @@
--- `session::closing::list_length` meets its contract. Assumes nothing.
+-- `closing_lists::list_length` meets its contract. Assumes nothing.
 use native.Mathlib.Omega.{arith}
 use Rattle.scripts.specs.Script.{keysIn}
-use Rattle.session.proofs.Lists.{list-counted}
+use Rattle.closing_lists.proofs.Lists.{list-counted}
 use borrow.Author.Needs.{needs}
-use Rattle.session.proofs.closing.list_length.Statement.{statement}
-use Rattle.session.proofs.closing.list_length.Tie as tie
+use Rattle.closing_lists.proofs.list_length.Statement.{statement}
+use Rattle.closing_lists.proofs.list_length.Tie as tie
 
 digit-count-requires : tie.Need-digit-count-requires
 digit-count-requires c κs = search needs

@@ -1,12 +1,12 @@
--- `session::dividing::steps_from` meets its contract. Assumes nothing.
+-- `inputs::steps_from` meets its contract. Assumes nothing.
 use mathlib.Core.Path.{sym, _∙_}
 use Prim.Native.Nat.{_+_, _≤_}
 use lib.ListN.{length}
 use native.Mathlib.Omega.{arith}
 use borrow.Author.Tests.{leb-true, leb-false}
 use borrow.Author.Needs.{needs}
-use Rattle.session.proofs.dividing.steps_from.Statement.{statement}
-use Rattle.session.proofs.dividing.steps_from.Tie as tie
+use Rattle.inputs.proofs.steps_from.Statement.{statement}
+use Rattle.inputs.proofs.steps_from.Tie as tie
 
 -- the six bytes fit
 six-fit : (c : tie.Then1) →

@@ -1,15 +1,15 @@
--- `session::dividing::find_steps` meets its contract. The invariant: the first line `steps` from here on is the first
+-- `inputs::find_steps` meets its contract. The invariant: the first line `steps` from here on is the first
 -- of all. Assumes nothing.
 use mathlib.Core.Path.{_≡_, sym, _∙_}
 use Prim.Native.Nat.{_+_, _-_, _≤_, _<_}
 use native.Mathlib.Omega.{arith}
 use lib.ListN.{length, drop}
 use Rattle.lines.specs.Lines.{linesOf}
-use Rattle.session.specs.Division.{stepsPlace}
-use Rattle.session.proofs.Division.{found, later, none-found}
+use Rattle.inputs.specs.Division.{stepsPlace}
+use Rattle.inputs.proofs.Division.{found, later, none-found}
 use borrow.Author.Needs.{needs}
-use Rattle.session.proofs.dividing.find_steps.Statement.{statement}
-use Rattle.session.proofs.dividing.find_steps.Tie as tie
+use Rattle.inputs.proofs.find_steps.Statement.{statement}
+use Rattle.inputs.proofs.find_steps.Tie as tie
 
 abbrev Inv-loop : tie.InvT-loop
 Inv-loop input at₀ t4 at =

@@ -1,0 +1,3 @@
+-- The definitions that the contracts cite, and the statement of the theorem. Assumes nothing.
+pub mod Division
+pub mod Theorems
