@@ -9,7 +9,7 @@ ghost use lib.ListN.{length};
 ghost use Rattle.lines.specs.Lines.{linesOf};
 ghost use Rattle.boosting.specs.Run.{run};
 ghost use Rattle.store_words.specs.Words.{storeOf, StoreFits};
-ghost use Rattle.performing.specs.Performed.{Shows};
+ghost use Rattle.store_words.specs.Performed.{Shows};
 ghost use Rattle.session.specs.Output.{answerLines};
 ghost use Rattle.session.specs.Answering.{RoomFor, Kept};
 ghost use Rattle.session.specs.Put.{Put};

@@ -6,7 +6,7 @@ ghost use Rattle.lines.specs.Lines.{linesOf};
 ghost use Rattle.session.specs.Division.{stepsPlace};
 use buffers::fits;
 use lines::find_byte;
-use steps::same_bytes;
+use step_words::same_bytes;
 
 const LF: u8 = 10;
 
