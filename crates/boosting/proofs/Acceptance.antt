@@ -12,7 +12,7 @@ use Rattle.numbers.specs.Digits.{digitsAt}
 use Rattle.numbers.specs.Number.{valueFrom, numberOf}
 use Rattle.cue_lines.specs.CueLine.{fieldsOf}
 use Rattle.tables.specs.Table.{memberOf, insertOf, deleteOf, putOnceOf}
-use Rattle.steps.specs.Word.{same, wordOf}
+use Rattle.step_words.specs.Word.{same, wordOf}
 use Rattle.answers.specs.declared.Answer.{Answer}
 use Rattle.answers.specs.declared.Answer.the-variants.{Ok, Yes, No, Empty, Cue, Left, Refused}
 use Rattle.scripts.specs.Script.{readFrom, scriptOf}

@@ -8,7 +8,7 @@ ghost use Rattle.lines.specs.Lines.{linesOf};
 ghost use Rattle.inputs.specs.Division.{stepsPlace};
 use buffers::fits;
 use lines::find_byte;
-use steps::same_bytes;
+use step_words::same_bytes;
 
 const LF: u8 = 10;
 

@@ -1,3 +1,3 @@
--- Laws of script and queue together, and of what an accepted step does to the whole store.
-pub mod States
+-- Laws of a call's part in its transaction, and of what an accepted call does to the whole store.
+pub mod Entered
 pub mod Stores

@@ -1,4 +1,2 @@
--- What the words hold, what the code's replies mean, and what the functions leave.
-pub mod Replies
-pub mod States
-pub mod Performed
+-- What a call leaves in its transaction. Assumes nothing.
+pub mod Entered

@@ -1,10 +1,7 @@
 // What an accepted step does, in place: to the script, the queue and the eight transactions in lent words.
 //
-// Each function does to the words what the model does to the store that they show (`specs/Performed`). A `requires`
-// asks for what opening and stepping establish, and for the room that the model's rows have found.
-mod calls;
-mod undo;
-
+// Each function does to the words what the model does to the store that they show (`store_words/specs/Performed`). A
+// `requires` asks for what opening and stepping establish, and for the room that the model's rows have found.
 ghost use mathlib.Core.Path.{_≡_};
 ghost use mathlib.Core.Bool.{true, false};
 ghost use Prim.Native.Nat.{_≤_};
@@ -16,13 +13,13 @@ ghost use Rattle.transactions.specs.Code.{modelLock};
 ghost use Rattle.undo_logs.specs.Code.{modelNewest};
 ghost use Rattle.store_words.specs.Words.{storeOf};
 ghost use Rattle.store_words.specs.Requests.{modelCall, modelAction};
-ghost use Rattle.performing.specs.States.{entered};
-ghost use Rattle.performing.specs.Performed.{Ready, Performed};
-use crate::calls::answer_of;
-use crate::calls::apply;
-use crate::calls::entry_of;
-pub use crate::undo::roll_back;
+ghost use Rattle.store_words.specs.Performed.{Ready, Performed};
+ghost use Rattle.performing.specs.Entered.{entered};
 use answers::Answer;
+use calls::answer_of;
+use calls::apply;
+use calls::entry_of;
+use rollback::roll_back;
 use store_words::Action;
 use store_words::Call;
 use store_words::lock_of;

@@ -26,7 +26,7 @@ use Rattle.boosting.proofs.StoreLaws.{range-valid}
 use Rattle.transactions.specs.View.{transactionOf}
 use Rattle.store_words.specs.Words.{storeOf, StoreFits}
 use Rattle.store_words.proofs.Places.{transaction-is}
-use Rattle.performing.specs.Performed.{Ready, Performed, Shows}
+use Rattle.store_words.specs.Performed.{Ready, Performed, Shows}
 
 -- standings differ
 pub closed-open : closed ≡ «open» → ⊥

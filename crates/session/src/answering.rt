@@ -10,7 +10,7 @@ ghost use Rattle.buffers.specs.Put.{Put};
 ghost use Rattle.lines.specs.Lines.{linesOf};
 ghost use Rattle.boosting.specs.Run.{run};
 ghost use Rattle.store_words.specs.Words.{storeOf, StoreFits};
-ghost use Rattle.performing.specs.Performed.{Shows};
+ghost use Rattle.store_words.specs.Performed.{Shows};
 ghost use Rattle.session.specs.Output.{answerLines};
 ghost use Rattle.session.specs.Answering.{RoomFor, Kept};
 use buffers::Written;

@@ -22,7 +22,7 @@ use Rattle.steps.specs.declared.reading.Step.the-variants.{
   RollBack,
   Malformed,
 }
-use Rattle.steps.specs.Word.{same, wordOf}
+use Rattle.step_words.specs.Word.{same, wordOf}
 use Rattle.steps.specs.Step.{stepOf}
 
 abbrev cue : ℕ → ℕ → ℕ → CueNumbers

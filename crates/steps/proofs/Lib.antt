@@ -4,4 +4,3 @@ pub mod Fields
 pub mod StepText
 pub mod Steps
 pub mod Theorems
-pub mod Words

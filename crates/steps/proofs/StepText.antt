@@ -11,7 +11,6 @@ use lib.Dec.{eqb}
 use lib.ListN.{length, take, drop}
 use lib.Seq.{take-append-seam, drop-append-add}
 use borrow.Author.Tests.{eqb-true}
-use Rattle.lines.specs.Ascii.{bytes}
 use Rattle.lines.specs.Lines.{upTo}
 use Rattle.lines.proofs.Laws.{up-append}
 use Rattle.numbers.specs.Digits.{digitsOf}
@@ -25,16 +24,13 @@ use Rattle.numbers.specs.Field.{field}
 use Rattle.cue_lines.specs.CueLine.{others, threeNumbers, fieldsOf}
 use Rattle.cue_lines.specs.declared.Fields.the-variants.{Numbers}
 use Rattle.steps.specs.declared.reading.CueNumbers.{CueNumbers}
-use Rattle.steps.specs.declared.reading.NumberWord.{NumberWord}
-use Rattle.steps.specs.declared.reading.NumberWord.the-variants.{Begin, Min, Take, Commit, Undo, Back}
-use Rattle.steps.specs.declared.reading.CueWord.{CueWord}
-use Rattle.steps.specs.declared.reading.CueWord.the-variants.{Add, Remove, Has, Push}
-use Rattle.steps.specs.declared.reading.Word.{Word}
-use Rattle.steps.specs.declared.reading.Word.the-variants.{WithNumber, WithCue, Unknown}
-use Rattle.steps.specs.Word.{same, wordOf}
+use Rattle.step_words.specs.declared.NumberWord.{NumberWord}
+use Rattle.step_words.specs.declared.NumberWord.the-variants.{Begin, Min, Take, Commit, Undo, Back}
+use Rattle.step_words.specs.declared.CueWord.{CueWord}
+use Rattle.step_words.specs.declared.CueWord.the-variants.{Add, Remove, Has, Push}
 use Rattle.steps.specs.Step.{numberStep, numbered, cueStep, cued}
 use Rattle.steps.specs.StepText.{callText, stepText, NineDigits, NineDigitCall, NineDigitStep}
-use Rattle.steps.proofs.Words.{same-true}
+use Rattle.step_words.proofs.WordText.{numberWord, cueWord}
 use Rattle.steps.proofs.Steps.{number-nil}
 
 -- ---- written, then read
@@ -145,20 +141,6 @@ call-canonical r e t m p ve f =
     )
 
 -- ---- words
-abbrev pub numberWord : NumberWord → List ℕ
-numberWord Begin = bytes "begin"
-numberWord Min = bytes "min"
-numberWord Take = bytes "take"
-numberWord Commit = bytes "commit"
-numberWord Undo = bytes "undo"
-numberWord Back = bytes "back"
-
-abbrev pub cueWord : CueWord → List ℕ
-cueWord Add = bytes "add"
-cueWord Remove = bytes "remove"
-cueWord Has = bytes "has"
-cueWord Push = bytes "push"
-
 pub number-text : (k : NumberWord) (e : ℕ) → NineDigits e
     → (numberWord k ++ 44 ∷ digitsOf e ≡ stepText (numberStep k e)) × NineDigitStep (numberStep k e)
 number-text Begin e h = (refl, h)
@@ -174,30 +156,3 @@ call-text Add e c h = (refl, h)
 call-text Remove e c h = (refl, h)
 call-text Has e c h = (refl, h)
 call-text Push e c h = (refl, h)
-
-abbrev pub IsWord : List ℕ → Word → Type 0
-IsWord w (WithNumber k) = w ≡ numberWord k
-IsWord w (WithCue k) = w ≡ cueWord k
-IsWord w Unknown = Unit {0}
-
--- the bytes that are read as a word are its text
-pub is-word : (w : List ℕ) → IsWord w (wordOf w)
-unfolding wordOf
-is-word w =
-    pick (bytes "begin") (WithNumber Begin) _ (λ e. e)
-    (pick (bytes "add") (WithCue Add) _ (λ e. e)
-    (pick (bytes "remove") (WithCue Remove) _ (λ e. e)
-    (pick (bytes "has") (WithCue Has) _ (λ e. e)
-    (pick (bytes "push") (WithCue Push) _ (λ e. e)
-    (pick (bytes "min") (WithNumber Min) _ (λ e. e)
-    (pick (bytes "take") (WithNumber Take) _ (λ e. e)
-    (pick (bytes "commit") (WithNumber Commit) _ (λ e. e)
-    (pick (bytes "undo") (WithNumber Undo) _ (λ e. e)
-    (pick (bytes "back") (WithNumber Back) Unknown (λ e. e) tt)))))))))
-  where
-    by-test : (b : Bool) (x y : Word) → (b ≡ true → IsWord w x) → IsWord w y → IsWord w (cond b x y)
-    by-test true x y this that = this refl
-    by-test false x y this that = that
-
-    pick : (text : List ℕ) (x y : Word) → (w ≡ text → IsWord w x) → IsWord w y → IsWord w (cond (same w text) x y)
-    pick text x y this that = by-test (same w text) x y (λ e. this (same-true w text e)) that

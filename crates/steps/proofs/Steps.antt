@@ -22,16 +22,16 @@ use Rattle.cue_lines.specs.declared.Fields.the-variants.{Numbers}
 use Rattle.cue_lines.specs.declared.Fields.the-variants.{Malformed as NoCue}
 use Rattle.cue_lines.proofs.Laws.{no-comma, one-comma}
 use Rattle.steps.specs.declared.reading.CueNumbers.{CueNumbers}
-use Rattle.steps.specs.declared.reading.NumberWord.{NumberWord}
-use Rattle.steps.specs.declared.reading.CueWord.{CueWord}
-use Rattle.steps.specs.declared.reading.Word.{Word}
-use Rattle.steps.specs.declared.reading.Word.the-variants.{WithNumber, WithCue, Unknown}
+use Rattle.step_words.specs.declared.NumberWord.{NumberWord}
+use Rattle.step_words.specs.declared.CueWord.{CueWord}
+use Rattle.step_words.specs.declared.Word.{Word}
+use Rattle.step_words.specs.declared.Word.the-variants.{WithNumber, WithCue, Unknown}
 use Rattle.steps.specs.declared.reading.Field.{Field}
 use Rattle.steps.specs.declared.reading.Field.the-variants.{Number as Ended}
 use Rattle.steps.specs.declared.reading.Field.the-variants.{Malformed as NotEnded}
 use Rattle.steps.specs.declared.reading.Step.{Step}
 use Rattle.steps.specs.declared.reading.Step.the-variants.{Malformed}
-use Rattle.steps.specs.Word.{wordOf}
+use Rattle.step_words.specs.Word.{wordOf}
 use Rattle.steps.specs.Field.{upToPlace, fieldAt, FieldWithin}
 use Rattle.steps.specs.Step.{numberStep, numbered, cueStep, cued, stepWith, stepOf}
 

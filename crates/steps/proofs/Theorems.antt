@@ -15,8 +15,8 @@ use Rattle.cue_lines.specs.declared.Fields.{Fields}
 use Rattle.cue_lines.specs.declared.Fields.the-variants.{Numbers}
 use Rattle.cue_lines.specs.declared.Fields.the-variants.{Malformed as NoCue}
 use Rattle.steps.specs.declared.reading.CueNumbers.{CueNumbers}
-use Rattle.steps.specs.declared.reading.NumberWord.{NumberWord}
-use Rattle.steps.specs.declared.reading.NumberWord.the-variants.{
+use Rattle.step_words.specs.declared.NumberWord.{NumberWord}
+use Rattle.step_words.specs.declared.NumberWord.the-variants.{
   Begin as begin,
   Min as min,
   Take as take,
@@ -24,15 +24,15 @@ use Rattle.steps.specs.declared.reading.NumberWord.the-variants.{
   Undo as undo,
   Back as back,
 }
-use Rattle.steps.specs.declared.reading.CueWord.{CueWord}
-use Rattle.steps.specs.declared.reading.CueWord.the-variants.{
+use Rattle.step_words.specs.declared.CueWord.{CueWord}
+use Rattle.step_words.specs.declared.CueWord.the-variants.{
   Add as add,
   Remove as remove,
   Has as has,
   Push as push,
 }
-use Rattle.steps.specs.declared.reading.Word.{Word}
-use Rattle.steps.specs.declared.reading.Word.the-variants.{WithNumber, WithCue, Unknown}
+use Rattle.step_words.specs.declared.Word.{Word}
+use Rattle.step_words.specs.declared.Word.the-variants.{WithNumber, WithCue, Unknown}
 use Rattle.steps.specs.declared.reading.Step.{Step}
 use Rattle.steps.specs.declared.reading.Step.the-variants.{
   Begin,
@@ -47,12 +47,13 @@ use Rattle.steps.specs.declared.reading.Step.the-variants.{
   RollBack,
   Malformed,
 }
-use Rattle.steps.specs.Word.{same, wordOf}
+use Rattle.step_words.specs.Word.{same, wordOf}
 use Rattle.steps.specs.Step.{numbered, cued, stepWith}
 use Rattle.steps.specs.StepText.{callText, stepText, NineDigitStep}
 use Rattle.steps.specs.Theorems.{StepWriteThenRead, StepReadIsCanonical}
-use Rattle.steps.proofs.StepText.{number-written, call-written, number-text, call-text, numberWord, cueWord}
-use Rattle.steps.proofs.StepText.{IsWord, is-word, at-comma, not-nil, call-canonical}
+use Rattle.step_words.proofs.WordText.{numberWord, cueWord, IsWord, is-word}
+use Rattle.steps.proofs.StepText.{number-written, call-written, number-text, call-text}
+use Rattle.steps.proofs.StepText.{at-comma, not-nil, call-canonical}
 
 pub step-write-then-read : StepWriteThenRead
 unfolding upTo same wordOf

@@ -3,4 +3,3 @@ pub mod Field
 pub mod Step
 pub mod StepText
 pub mod Theorems
-pub mod Word

@@ -13,10 +13,10 @@ use Rattle.cue_lines.specs.CueLine.{others, fieldsOf}
 use Rattle.cue_lines.specs.declared.Fields.{Fields}
 use Rattle.cue_lines.specs.declared.Fields.the-variants.{Numbers}
 use Rattle.cue_lines.specs.declared.Fields.the-variants.{Malformed as NoCue}
-use Rattle.steps.specs.Word.{wordOf}
+use Rattle.step_words.specs.Word.{wordOf}
 use Rattle.steps.specs.declared.reading.CueNumbers.{CueNumbers}
-use Rattle.steps.specs.declared.reading.NumberWord.{NumberWord}
-use Rattle.steps.specs.declared.reading.NumberWord.the-variants.{
+use Rattle.step_words.specs.declared.NumberWord.{NumberWord}
+use Rattle.step_words.specs.declared.NumberWord.the-variants.{
   Begin as begin,
   Min as min,
   Take as take,
@@ -24,15 +24,15 @@ use Rattle.steps.specs.declared.reading.NumberWord.the-variants.{
   Undo as undo,
   Back as back,
 }
-use Rattle.steps.specs.declared.reading.CueWord.{CueWord}
-use Rattle.steps.specs.declared.reading.CueWord.the-variants.{
+use Rattle.step_words.specs.declared.CueWord.{CueWord}
+use Rattle.step_words.specs.declared.CueWord.the-variants.{
   Add as add,
   Remove as remove,
   Has as has,
   Push as push,
 }
-use Rattle.steps.specs.declared.reading.Word.{Word}
-use Rattle.steps.specs.declared.reading.Word.the-variants.{WithNumber, WithCue, Unknown}
+use Rattle.step_words.specs.declared.Word.{Word}
+use Rattle.step_words.specs.declared.Word.the-variants.{WithNumber, WithCue, Unknown}
 use Rattle.steps.specs.declared.reading.Step.{Step}
 use Rattle.steps.specs.declared.reading.Step.the-variants.{
   Begin,

@@ -8,4 +8,3 @@ mod reading;
 pub use reading::CueNumbers;
 pub use reading::Step;
 pub use reading::read_step;
-pub use reading::same_bytes;

@@ -1,16 +1,18 @@
-// A step line, read: its first byte leaves one word to compare with, and each field is scanned once.
+// A step line, read: its word first, then each field, scanned once.
 ghost use mathlib.Core.Path.{_≡_};
-ghost use mathlib.Core.Bool.{cond};
 ghost use lib.ListN.{length, drop};
 ghost use Rattle.numbers.specs.Field.{field};
 ghost use Rattle.cue_lines.specs.CueLine.{others, fieldsOf};
 ghost use Rattle.numbers.specs.Number.{numberOf};
-ghost use Rattle.steps.specs.Word.{same, wordOf};
 ghost use Rattle.steps.specs.Field.{fieldAt, FieldWithin};
 ghost use Rattle.steps.specs.Step.{numbered, cueStep, cued, stepOf};
 use lines::find_byte;
 use numbers::Number;
 use numbers::read_number;
+use step_words::CueWord;
+use step_words::NumberWord;
+use step_words::Word;
+use step_words::read_word;
 
 const COMMA: u8 = 44;
 
@@ -39,87 +41,10 @@ pub enum Step {
     Malformed,
 }
 
-// The words of lines `word,e`, as the papers write them.
-enum NumberWord {
-    Begin,
-    Min,
-    Take,
-    Commit,
-    Undo,
-    Back,
-}
-
-// The words of lines `word,e,t,m,p`.
-enum CueWord {
-    Add,
-    Remove,
-    Has,
-    Push,
-}
-
-enum Word {
-    WithNumber(NumberWord),
-    WithCue(CueWord),
-    Unknown,
-}
-
 // The number of a field that a comma ends, and the place behind the comma.
 enum Field {
     Number(u64, usize),
     Malformed,
-}
-
-// Whether two stretches have the same bytes.
-pub fn same_bytes(a: &[u8], b: &[u8]) -> bool
-    ensures { λ r. ⌜ r ≡ same (now (a .entry)) (now (b .entry)) ⌝ }
-{
-    if a.len() != b.len() {
-        return false;
-    }
-    let mut i = 0;
-    while i < a.len() {
-        if a[i] != b[i] {
-            return false;
-        }
-        i += 1;
-    }
-    true
-}
-
-// The word, if the bytes are its text.
-fn word_if(bytes: &[u8], text: &[u8], word: Word) -> Word
-    ensures { λ r. ⌜ r ≡ cond (same (now (bytes .entry)) (now (text .entry))) word Word.Unknown ⌝ }
-{
-    if same_bytes(bytes, text) {
-        return word;
-    }
-    Word::Unknown
-}
-
-// The word that the bytes are. The first byte leaves one to compare with; `begin` and `back` differ in length.
-fn read_word(bytes: &[u8]) -> Word
-    ensures { λ r. ⌜ r ≡ wordOf (now (bytes .entry)) ⌝ }
-{
-    if bytes.len() == 0 {
-        return Word::Unknown;
-    }
-    match bytes[0] {
-        b'a' => word_if(bytes, b"add", Word::WithCue(CueWord::Add)),
-        b'b' => {
-            if bytes.len() == 5 {
-                return word_if(bytes, b"begin", Word::WithNumber(NumberWord::Begin));
-            }
-            word_if(bytes, b"back", Word::WithNumber(NumberWord::Back))
-        }
-        b'c' => word_if(bytes, b"commit", Word::WithNumber(NumberWord::Commit)),
-        b'h' => word_if(bytes, b"has", Word::WithCue(CueWord::Has)),
-        b'm' => word_if(bytes, b"min", Word::WithNumber(NumberWord::Min)),
-        b'p' => word_if(bytes, b"push", Word::WithCue(CueWord::Push)),
-        b'r' => word_if(bytes, b"remove", Word::WithCue(CueWord::Remove)),
-        b't' => word_if(bytes, b"take", Word::WithNumber(NumberWord::Take)),
-        b'u' => word_if(bytes, b"undo", Word::WithNumber(NumberWord::Undo)),
-        _ => Word::Unknown,
-    }
 }
 
 // The number field that starts at a place of the line and that a comma ends. The second clause is the bound that a

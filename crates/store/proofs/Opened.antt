@@ -13,7 +13,7 @@ use Rattle.boosting.specs.Store.{closedTransaction, started, opened}
 use Rattle.boosting.proofs.Theorems.{opened-is-sound}
 use Rattle.transactions.specs.View.{Made, transactionOf}
 use Rattle.store_words.specs.Words.{AllFit, scriptIn, queueIn, storeOf, ScriptFits, TransactionsFit}
-use Rattle.performing.specs.Performed.{Shows}
+use Rattle.store_words.specs.Performed.{Shows}
 use Rattle.store.specs.Sized.{AllLong}
 
 -- ---- the transactions, closed from the first on

@@ -17,7 +17,7 @@ use Rattle.boosting.proofs.Accepted.{accepted-valid, malformed-refused, step-re
 use Rattle.boosting.proofs.StoreLaws.{valid-range}
 use Rattle.boosting.proofs.Theorems.{accepted-exactly}
 use Rattle.store_words.specs.Words.{storeOf, StoreFits}
-use Rattle.performing.specs.Performed.{Ready, Performed}
+use Rattle.store_words.specs.Performed.{Ready, Performed}
 use Rattle.store.specs.Stepped.{Asks, Stepped}
 
 module _ (s q : List ℕ) (ts : List (List ℕ)) (x : Step) (f : StoreFits s q ts) where

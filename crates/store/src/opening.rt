@@ -6,7 +6,7 @@ ghost use Rattle.scripts.specs.Script.{keysOf, scriptOf};
 ghost use Rattle.boosting.specs.Store.{closedTransaction, opened};
 ghost use Rattle.transactions.specs.View.{transactionOf};
 ghost use Rattle.store_words.specs.Words.{scriptIn, ScriptFits, TransactionsFit};
-ghost use Rattle.performing.specs.Performed.{Shows};
+ghost use Rattle.store_words.specs.Performed.{Shows};
 ghost use Rattle.store.specs.Sized.{AllLong, Sized};
 use script_texts::key_count;
 use scripts::Outcome;

@@ -6,7 +6,7 @@ use Rattle.answers.specs.declared.Answer.{Answer}
 use Rattle.boosting.specs.Store.{Store as StoreM}
 use Rattle.boosting.specs.Step.{stepLine}
 use Rattle.store_words.specs.Words.{storeOf, StoreFits}
-use Rattle.performing.specs.Performed.{Shows}
+use Rattle.store_words.specs.Performed.{Shows}
 use Rattle.store.specs.Stepped.{Stepped}
 use Rattle.store_by_value.specs.declared.Record.{Record}
 use Rattle.store_by_value.specs.declared.Store.{Store}

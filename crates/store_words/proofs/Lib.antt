@@ -1,2 +1,4 @@
 -- Laws of the words that hold the store.
+pub mod Performed
 pub mod Places
+pub mod States

@@ -1,4 +1,5 @@
-// What the crates of the store share: how lent words hold it (`specs/Words`), and what a step asks of it.
+// What the crates of the store share: how lent words hold it (`specs/Words`), what a step asks of it, and what a step
+// needs of the words and leaves in them (`specs/States`, `specs/Performed`).
 //
 // A request is a transaction's number and an action, as in the model; a call carries its cue as a key.
 ghost use mathlib.Core.Path.{_≡_};

@@ -9,7 +9,7 @@ use Rattle.cue_texts.specs.CueText.{cueText}
 use Rattle.tables.specs.Table.{memberOf, insertOf, deleteOf, putOnceOf}
 use Rattle.scripts.specs.Script.{readFrom, scriptOf}
 use Rattle.scripts.specs.ScriptText.{textOf}
-use Rattle.steps.specs.Word.{same, wordOf}
+use Rattle.step_words.specs.Word.{same, wordOf}
 use Rattle.answers.specs.Answer.{refusalText}
 use Rattle.boosting.specs.Object.{effect, reply}
 use Rattle.boosting.specs.Undo.{entryOf, inverse}

@@ -8,6 +8,7 @@ use mathlib.Core.Bool.{true}
 use Rattle.transactions.specs.Code.{modelLock}
 use Rattle.undo_logs.specs.Code.{modelNewest}
 use Rattle.store_words.specs.Requests.{modelCall}
+use Rattle.store_words.proofs.Performed as words
 use Rattle.performing.proofs.Stores as laws
 use Rattle.performing.proofs.accept.Statement.{statement}
 use Rattle.performing.proofs.accept.Tie as tie
@@ -20,7 +21,7 @@ apply-requires c κs =
     let ts = s .args .ts .now in
     let e = s .args .e in
     let k = modelCall (s .args .call) in
-    (laws.state-fits x q ts e (call true k) (s .pre .0), laws.call-room x q ts e k (s .pre .0) (s .pre .1))
+    (words.state-fits x q ts e (call true k) (s .pre .0), laws.call-room x q ts e k (s .pre .0) (s .pre .1))
 
 entry-of-requires : tie.Need-entry-of-requires
 entry-of-requires c κs = search needs

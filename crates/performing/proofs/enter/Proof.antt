@@ -2,7 +2,7 @@
 use borrow.Author.Needs.{needs}
 use Rattle.transactions.specs.Code.{modelLock}
 use Rattle.transactions.specs.View.{transactionOf}
-use Rattle.performing.proofs.States as laws
+use Rattle.performing.proofs.Entered as laws
 use Rattle.performing.proofs.enter.Statement.{statement}
 use Rattle.performing.proofs.enter.Tie as tie
 

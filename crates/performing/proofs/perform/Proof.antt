@@ -1,6 +1,7 @@
 -- `performing::perform` meets its contract. Assumes nothing.
 use borrow.Author.Needs.{needs}
 use Rattle.boosting.specs.Step.{perform}
+use Rattle.store_words.proofs.Performed as words
 use Rattle.performing.proofs.Stores as laws
 use Rattle.performing.proofs.perform.Statement.{statement}
 use Rattle.performing.proofs.perform.Tie as tie
@@ -24,7 +25,7 @@ begin-requires c κs =
     let q = s .args .queue .now in
     let ts = s .args .ts .now in
     let e = s .args .e in
-    laws.words-fit x q ts e _ (s .pre .0) (s .pre .1) (s .pre .2)
+    words.words-fit x q ts e _ (s .pre .0) (s .pre .1) (s .pre .2)
 
 enum-told-2 : tie.Need-enum-told-2
 enum-told-2 c = search needs
@@ -45,7 +46,7 @@ close-requires c κs =
     let q = s .args .queue .now in
     let ts = s .args .ts .now in
     let e = s .args .e in
-    laws.words-fit x q ts e _ (s .pre .0) (s .pre .1) (s .pre .2) .long
+    words.words-fit x q ts e _ (s .pre .0) (s .pre .1) (s .pre .2) .long
 
 enum-told-3 : tie.Need-enum-told-3
 enum-told-3 c = search needs
@@ -66,7 +67,7 @@ abort-requires c κs =
     let q = s .args .queue .now in
     let ts = s .args .ts .now in
     let e = s .args .e in
-    laws.words-fit x q ts e _ (s .pre .0) (s .pre .1) (s .pre .2)
+    words.words-fit x q ts e _ (s .pre .0) (s .pre .1) (s .pre .2)
 
 enum-told-4 : tie.Need-enum-told-4
 enum-told-4 c = search needs
@@ -97,7 +98,7 @@ returns c =
     let ts = s .args .ts .now in
     let e = s .args .e in
     let g = c .before .before .enum-told .given .1 in
-    rw g (laws.begun x q ts e (s .pre .1) (c .begin .last .0) (rw g at (s .pre .0)) (c .begin .ensures))
+    rw g (words.begun x q ts e (s .pre .1) (c .begin .last .0) (rw g at (s .pre .0)) (c .begin .ensures))
 
 returns-2 : tie.Need-returns-2
 returns-2 c =
@@ -107,7 +108,7 @@ returns-2 c =
     let ts = s .args .ts .now in
     let e = s .args .e in
     let g = c .before .before .enum-told2 .given .1 in
-    rw g (laws.committed x q ts e (s .pre .1) (c .close .last .0) (rw g at (s .pre .0)) (c .close .ensures))
+    rw g (words.committed x q ts e (s .pre .1) (c .close .last .0) (rw g at (s .pre .0)) (c .close .ensures))
 
 returns-3 : tie.Need-returns-3
 returns-3 c =
@@ -117,7 +118,7 @@ returns-3 c =
     let ts = s .args .ts .now in
     let e = s .args .e in
     let g = c .before .before .enum-told3 .given .1 in
-    rw g (laws.aborts x q ts e (s .pre .1) (c .abort .last .0) (rw g at (s .pre .0)) (c .abort .ensures))
+    rw g (words.aborts x q ts e (s .pre .1) (c .abort .last .0) (rw g at (s .pre .0)) (c .abort .ensures))
 
 returns-4 : tie.Need-returns-4
 returns-4 c = rw (c .before .before .before .before .enum-told4 .given .1) (c .roll-back .ensures)

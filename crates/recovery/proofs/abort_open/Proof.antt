@@ -8,7 +8,7 @@ use Rattle.boosting.specs.Store.{closed, aborting}
 use Rattle.boosting.specs.Rows.{abort}
 use Rattle.transactions.specs.Code.{modelStanding}
 use Rattle.store_words.proofs.Places.{fit-at}
-use Rattle.performing.proofs.Stores as stores
+use Rattle.store_words.proofs.Performed as words
 use Rattle.recovery.proofs.Recovering as laws
 use Rattle.recovery.proofs.abort_open.Statement.{statement}
 use Rattle.recovery.proofs.abort_open.Tie as tie
@@ -71,7 +71,7 @@ returns-2 c =
     ∙ ap modelStanding (c .before .before .enum-told2 .given .1) in
     let r = laws.abort-ready x q ts e (s .pre .0) (s .pre .1) (s .pre .2) p in
     laws.stepped x q ts e (s .pre .0) (s .pre .1) (s .pre .2) x q _ Ok abort r
-    (stores.aborts x q ts e (s .pre .1) (c .abort .last .0) r (c .abort .ensures))
+    (words.aborts x q ts e (s .pre .1) (c .abort .last .0) r (c .abort .ensures))
 
 returns-3 : tie.Need-returns-3
 returns-3 c =

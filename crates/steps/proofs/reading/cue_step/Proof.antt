@@ -1,5 +1,5 @@
 -- `steps::reading::cue_step` meets its contract. Assumes nothing.
-use Rattle.steps.specs.declared.reading.CueWord.the-variants.{Add, Remove, Has, Push}
+use Rattle.step_words.specs.declared.CueWord.the-variants.{Add, Remove, Has, Push}
 use Rattle.steps.proofs.Steps.{cue-word}
 use borrow.Author.Needs.{needs}
 use Rattle.steps.proofs.reading.cue_step.Statement.{statement}

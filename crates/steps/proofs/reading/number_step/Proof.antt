@@ -1,5 +1,5 @@
 -- `steps::reading::number_step` meets its contract. Assumes nothing.
-use Rattle.steps.specs.declared.reading.NumberWord.the-variants.{Begin, Min, Take, Commit, Undo, Back}
+use Rattle.step_words.specs.declared.NumberWord.the-variants.{Begin, Min, Take, Commit, Undo, Back}
 use Rattle.steps.proofs.Steps.{number-word}
 use borrow.Author.Needs.{needs}
 use Rattle.steps.proofs.reading.number_step.Statement.{statement}

@@ -1,0 +1,2 @@
+-- What the code's replies mean. Assumes nothing.
+pub mod Replies

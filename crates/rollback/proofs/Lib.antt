@@ -1,0 +1,2 @@
+-- Laws of a rollback step on the whole store.
+pub mod RolledBack

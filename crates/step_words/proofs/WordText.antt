@@ -1,0 +1,55 @@
+-- The text of each word, and that the bytes read as a word are its text. Assumes nothing.
+use mathlib.Core.Path.{_≡_, refl}
+use mathlib.Core.Bool.{Bool, true, false, cond}
+use mathlib.Core.List.{List}
+use Prim.Native.Nat.{ℕ}
+use Rattle.lines.specs.Ascii.{bytes}
+use Rattle.step_words.specs.declared.NumberWord.{NumberWord}
+use Rattle.step_words.specs.declared.NumberWord.the-variants.{Begin, Min, Take, Commit, Undo, Back}
+use Rattle.step_words.specs.declared.CueWord.{CueWord}
+use Rattle.step_words.specs.declared.CueWord.the-variants.{Add, Remove, Has, Push}
+use Rattle.step_words.specs.declared.Word.{Word}
+use Rattle.step_words.specs.declared.Word.the-variants.{WithNumber, WithCue, Unknown}
+use Rattle.step_words.specs.Word.{same, wordOf}
+use Rattle.step_words.proofs.Words.{same-true}
+
+abbrev pub numberWord : NumberWord → List ℕ
+numberWord Begin = bytes "begin"
+numberWord Min = bytes "min"
+numberWord Take = bytes "take"
+numberWord Commit = bytes "commit"
+numberWord Undo = bytes "undo"
+numberWord Back = bytes "back"
+
+abbrev pub cueWord : CueWord → List ℕ
+cueWord Add = bytes "add"
+cueWord Remove = bytes "remove"
+cueWord Has = bytes "has"
+cueWord Push = bytes "push"
+
+abbrev pub IsWord : List ℕ → Word → Type 0
+IsWord w (WithNumber k) = w ≡ numberWord k
+IsWord w (WithCue k) = w ≡ cueWord k
+IsWord w Unknown = Unit {0}
+
+-- the bytes that are read as a word are its text
+pub is-word : (w : List ℕ) → IsWord w (wordOf w)
+unfolding wordOf
+is-word w =
+    pick (bytes "begin") (WithNumber Begin) _ (λ e. e)
+    (pick (bytes "add") (WithCue Add) _ (λ e. e)
+    (pick (bytes "remove") (WithCue Remove) _ (λ e. e)
+    (pick (bytes "has") (WithCue Has) _ (λ e. e)
+    (pick (bytes "push") (WithCue Push) _ (λ e. e)
+    (pick (bytes "min") (WithNumber Min) _ (λ e. e)
+    (pick (bytes "take") (WithNumber Take) _ (λ e. e)
+    (pick (bytes "commit") (WithNumber Commit) _ (λ e. e)
+    (pick (bytes "undo") (WithNumber Undo) _ (λ e. e)
+    (pick (bytes "back") (WithNumber Back) Unknown (λ e. e) tt)))))))))
+  where
+    by-test : (b : Bool) (x y : Word) → (b ≡ true → IsWord w x) → IsWord w y → IsWord w (cond b x y)
+    by-test true x y this that = this refl
+    by-test false x y this that = that
+
+    pick : (text : List ℕ) (x y : Word) → (w ≡ text → IsWord w x) → IsWord w y → IsWord w (cond (same w text) x y)
+    pick text x y this that = by-test (same w text) x y (λ e. this (same-true w text e)) that

@@ -1,0 +1,32 @@
+-- The words of step lines, in small letters. Assumes nothing.
+use Prim.Native.Nat.{ℕ}
+use mathlib.Core.Bool.{Bool, true, false, cond, _&&_}
+use mathlib.Core.List.{List, [], _∷_}
+use lib.Dec.{eqb}
+use Rattle.lines.specs.Ascii.{bytes}
+use Rattle.step_words.specs.declared.NumberWord.the-variants.{Begin, Min, Take, Commit, Undo, Back}
+use Rattle.step_words.specs.declared.CueWord.the-variants.{Add, Remove, Has, Push}
+use Rattle.step_words.specs.declared.Word.{Word}
+use Rattle.step_words.specs.declared.Word.the-variants.{WithNumber, WithCue, Unknown}
+
+-- whether two stretches have the same bytes
+unfoldable pub same : List ℕ → List ℕ → Bool
+same [] [] = true
+same [] (b ∷ v) = false
+same (a ∷ u) [] = false
+same (a ∷ u) (b ∷ v) = eqb a b && same u v
+
+-- the word that the bytes before the first comma are
+unfoldable pub wordOf : List ℕ → Word
+wordOf w =
+    cond (same w (bytes "begin")) (WithNumber Begin)
+    (cond (same w (bytes "add")) (WithCue Add)
+    (cond (same w (bytes "remove")) (WithCue Remove)
+    (cond (same w (bytes "has")) (WithCue Has)
+    (cond (same w (bytes "push")) (WithCue Push)
+    (cond (same w (bytes "min")) (WithNumber Min)
+    (cond (same w (bytes "take")) (WithNumber Take)
+    (cond (same w (bytes "commit")) (WithNumber Commit)
+    (cond (same w (bytes "undo")) (WithNumber Undo)
+    (cond (same w (bytes "back")) (WithNumber Back)
+    Unknown)))))))))
