@@ -9,7 +9,7 @@ use buffers::Written;
 use buffers::write_bytes;
 use cues::Cue;
 use cues::cue_length;
-use numbers::digit_count;
+use digits::digit_count;
 use records::write_record;
 use refusals::Refusal;
 use refusals::refusal_number;

@@ -26,7 +26,7 @@ use buffers::write_bytes;
 use cues::cue_length;
 use cues::key_cue;
 use cues::write_cue;
-use numbers::digit_count;
+use digits::digit_count;
 use records::write_field;
 use refusals::Refusal;
 

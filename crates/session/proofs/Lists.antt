@@ -7,7 +7,7 @@ use native.Mathlib.Omega.{arith}
 use lib.ListN.{length, take, getD, length-append}
 use lib.Seq.{take-take, length-take-le}
 use Rattle.lines.specs.Ascii.{bytes}
-use Rattle.numbers.specs.Digits.{digitsOf}
+use Rattle.digits.specs.Digits.{digitsOf}
 use Rattle.records.specs.Record.{fieldText}
 use Rattle.scripts.specs.Script.{keysIn}
 use Rattle.scripts.specs.ScriptText.{textOf}

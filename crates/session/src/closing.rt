@@ -7,7 +7,7 @@ ghost use Rattle.store_words.specs.Words.{stateOf, ScriptFits, QueueFits};
 ghost use Rattle.session.specs.Output.{listText, closingText};
 ghost use Rattle.session.specs.Put.{Put};
 use buffers::Written;
-use numbers::digit_count;
+use digits::digit_count;
 use script_texts::cues_length;
 use script_texts::write_cues;
 use store_words::QUEUE_COUNT;

@@ -9,7 +9,7 @@ ghost use Rattle.session.specs.Started.{Started};
 use crate::dividing::find_steps;
 use crate::dividing::steps_from;
 use buffers::Written;
-use numbers::digit_count;
+use digits::digit_count;
 use records::write_record;
 use refusals::Refusal;
 use refusals::refusal_number;

@@ -16,7 +16,7 @@ use buffers::write_bytes;
 use cues::Cue;
 use cues::cue_length;
 use cues::write_cue;
-use numbers::digit_count;
+use digits::digit_count;
 use records::write_field;
 use refusals::Refusal;
 
