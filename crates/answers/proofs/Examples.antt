@@ -3,7 +3,7 @@ use mathlib.Core.Path.{_≡_, refl}
 use mathlib.Core.List.{List, [], _∷_, map}
 use Prim.Native.String.{String}
 use Rattle.lines.specs.Ascii.{bytes}
-use Rattle.numbers.specs.Digits.{digitsAt}
+use Rattle.digits.specs.Digits.{digitsAt}
 use Rattle.records.specs.Record.{recordText}
 use Rattle.refusals.specs.declared.Refusal.the-variants.{
   Malformed,

@@ -28,7 +28,7 @@ use Rattle.refusals.specs.declared.Refusal.the-variants.{
 use Rattle.buffers.specs.declared.Written.{Written}
 use Rattle.buffers.specs.Written.{writtenAt}
 use Rattle.lines.specs.Ascii.{bytes}
-use Rattle.numbers.specs.Digits.{digitsAt, digitsOf}
+use Rattle.digits.specs.Digits.{digitsAt, digitsOf}
 use Rattle.records.specs.Record.{fieldText, recordText}
 use Rattle.records.proofs.Laws.{field-length, record-length}
 use Rattle.cue_texts.specs.CueText.{cueText}

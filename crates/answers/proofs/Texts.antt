@@ -10,12 +10,12 @@ use lib.Seq.{take-append-seam, drop-append-add}
 use Rattle.lines.specs.Ascii.{bytes}
 use Rattle.lines.specs.Lines.{upTo}
 use Rattle.lines.proofs.Laws.{up-append, none-append}
-use Rattle.numbers.specs.Digits.{digitsAt, digitsOf}
+use Rattle.digits.specs.Digits.{digitsAt, digitsOf}
 use Rattle.numbers.specs.Number.{valueFrom}
 use Rattle.numbers.specs.declared.Number.{Number}
 use Rattle.numbers.specs.declared.Number.the-variants.{Value}
 use Rattle.numbers.specs.declared.Number.the-variants.{Malformed as NoNumber}
-use Rattle.numbers.proofs.Laws.{none-digits}
+use Rattle.digits.proofs.Laws.{none-digits}
 use Rattle.numbers.proofs.Theorems.{every-number}
 use Rattle.records.specs.Record.{fieldText, recordText}
 use Rattle.refusals.specs.declared.Refusal.{Refusal}

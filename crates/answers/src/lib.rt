@@ -9,7 +9,7 @@ use buffers::Written;
 use buffers::write_bytes;
 use cue_texts::cue_length;
 use cues::Cue;
-use numbers::digit_count;
+use digits::digit_count;
 use records::write_record;
 use refusals::Refusal;
 use refusals::refusal_number;

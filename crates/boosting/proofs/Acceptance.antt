@@ -8,7 +8,7 @@ use borrow.Author.Tests.{leb-true}
 use lib.Dec.{leb}
 use lib.ListN.{length, getD, replicate}
 use Rattle.lines.specs.Lines.{upTo, onto, linesOf}
-use Rattle.numbers.specs.Digits.{digitsAt}
+use Rattle.digits.specs.Digits.{digitsAt}
 use Rattle.numbers.specs.Number.{valueFrom, numberOf}
 use Rattle.cue_lines.specs.CueLine.{fieldsOf}
 use Rattle.tables.specs.Table.{memberOf, insertOf, deleteOf, putOnceOf}

@@ -10,7 +10,7 @@ use lib.Dec.{eqb}
 use lib.ListN.{length, getD, drop}
 use borrow.Author.Tests.{eq-eqb}
 use Rattle.lines.specs.Ascii.{bytes}
-use Rattle.numbers.proofs.Laws.{digits-small}
+use Rattle.digits.proofs.Laws.{digits-small}
 use Rattle.cues.specs.Cue.{CueKey, cueOf}
 use Rattle.cue_texts.specs.CueText.{cueText}
 use Rattle.tables.specs.Table.{memberOf}

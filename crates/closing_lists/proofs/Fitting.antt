@@ -5,8 +5,8 @@ use Prim.Native.Nat.{ℕ, _+_, _^_, _≤_, _<_}
 use native.Mathlib.Omega.{arith}
 use lib.ListN.{length, length-append}
 use Rattle.lines.specs.Ascii.{bytes}
-use Rattle.numbers.specs.Digits.{digitsOf}
-use Rattle.numbers.proofs.Laws.{digits-at-most}
+use Rattle.digits.specs.Digits.{digitsOf}
+use Rattle.digits.proofs.Laws.{digits-at-most}
 use Rattle.records.specs.Record.{fieldText}
 use Rattle.records.proofs.Laws.{field-length}
 use Rattle.scripts.specs.ScriptText.{textOf}

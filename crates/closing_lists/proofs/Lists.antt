@@ -9,7 +9,7 @@ use lib.Seq.{take-take, length-take-le}
 use Rattle.buffers.specs.Put.{Put}
 use Rattle.buffers.proofs.Puts.{first-fits, rest-fits, both-put}
 use Rattle.lines.specs.Ascii.{bytes}
-use Rattle.numbers.specs.Digits.{digitsOf}
+use Rattle.digits.specs.Digits.{digitsOf}
 use Rattle.records.specs.Record.{fieldText}
 use Rattle.scripts.specs.Script.{keysIn}
 use Rattle.scripts.specs.ScriptText.{textOf}

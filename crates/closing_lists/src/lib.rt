@@ -13,7 +13,7 @@ ghost use Rattle.store_words.specs.Words.{stateOf, ScriptFits, QueueFits};
 ghost use Rattle.closing_lists.specs.Closing.{listText, closingText};
 use buffers::Written;
 use buffers::fits;
-use numbers::digit_count;
+use digits::digit_count;
 use refusals::Refusal;
 use script_texts::cues_length;
 use script_texts::write_cues;

@@ -6,8 +6,8 @@ use native.Mathlib.Omega.{arith}
 use lib.ListN.{length}
 use Rattle.lines.specs.Lines.{upTo}
 use Rattle.lines.proofs.Laws.{none-append, none-one}
-use Rattle.numbers.specs.Digits.{digitsOf}
-use Rattle.numbers.proofs.Laws.{none-digits, digits-at-most}
+use Rattle.digits.specs.Digits.{digitsOf}
+use Rattle.digits.proofs.Laws.{none-digits, digits-at-most}
 use Rattle.records.specs.Record.{fieldText}
 use Rattle.records.proofs.Laws.{field-length}
 use Rattle.cues.specs.declared.Cue.{Cue}

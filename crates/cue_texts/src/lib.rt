@@ -12,7 +12,7 @@ ghost use Rattle.cue_texts.specs.CueText.{cueText};
 use buffers::Written;
 use buffers::fits;
 use cues::Cue;
-use numbers::digit_count;
+use digits::digit_count;
 use records::write_field;
 use refusals::Refusal;
 

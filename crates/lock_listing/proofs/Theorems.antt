@@ -20,8 +20,8 @@ use native.Mathlib.Nat.{ℕ-set}
 use native.Mathlib.Omega.{arith}
 use lib.ListN.{length, length-append}
 use Rattle.lines.specs.Ascii.{bytes}
-use Rattle.numbers.specs.Digits.{digitsOf}
-use Rattle.numbers.proofs.Laws.{digits-small}
+use Rattle.digits.specs.Digits.{digitsOf}
+use Rattle.digits.proofs.Laws.{digits-small}
 use Rattle.cues.specs.Cue.{cueOf}
 use Rattle.cue_texts.proofs.Theorems.{cue-line-short}
 use Rattle.scripts.specs.Theorems.{AllCues}

@@ -26,7 +26,7 @@ use buffers::write_bytes;
 use cue_texts::cue_length;
 use cue_texts::write_cue;
 use cues::key_cue;
-use numbers::digit_count;
+use digits::digit_count;
 use records::write_field;
 use refusals::Refusal;
 

@@ -8,16 +8,17 @@ use Prim.Native.Nat.{ℕ, zero, suc, _+_, _*_, _-_, _/_, _%_, _^_, _≤_, _<_}
 use native.Mathlib.Nat.{pow-suc}
 use native.Mathlib.Omega.{arith}
 use lib.Dec.{ltb, eqb}
-use lib.ListN.{length, getD, take, length-append, List·getD-append}
+use lib.ListN.{length, getD, take}
 use lib.Seq.{take-suc, take-all, length-take-le, getD-take}
 use borrow.Author.Tests.{lt-ltb, le-ltb, ltb-false, eqb-true, eqb-false}
 use Rattle.lines.proofs.Laws.{lt-or-ge}
+use Rattle.digits.specs.Digits.{digitsAt, digitsOf}
+use Rattle.digits.proofs.Laws.{digits-pos, digits-step, digits-small, digits-at-most, digits-lead, zero-one}
 use Rattle.numbers.specs.declared.Number.{Number}
 use Rattle.numbers.specs.declared.Number.the-variants.{Value, Malformed}
-use Rattle.numbers.specs.Digits.{digitsAt, digitsOf}
 use Rattle.numbers.specs.Number.{valueFrom, numberOf}
 use Rattle.numbers.specs.Theorems.{WriteThenRead, EveryNumber, ReadIsCanonical}
-use Rattle.numbers.proofs.Laws.{digits-step, digits-small, digits-at-most, ten-le, number-good}
+use Rattle.numbers.proofs.Laws.{ten-le, number-good}
 
 -- digits behind a number, or behind none
 abbrev andThen : Number → List ℕ → Number
@@ -66,42 +67,11 @@ value-at (suc k) n h =
     ∙ (num-one (n / 10) (n % 10) d ∙ ap Value e))))
     (lt-or-ge n 10)
 
--- ---- how many digits, and which comes first
-length-cond : (t : Bool) (n k : ℕ) (l : List ℕ) → (0 < length l) × (length l ≤ k)
-    → (0 < length (cond t ((48 + n) ∷ []) (l ++ ((48 + n % 10) ∷ []))))
-    × (length (cond t ((48 + n) ∷ []) (l ++ ((48 + n % 10) ∷ []))) ≤ suc k)
-length-cond true n k l h = omega arith
-length-cond false n k l h = omega (arith, length-append l ((48 + n % 10) ∷ []))
-
-length-at : (k n : ℕ) → (0 < length (digitsAt k n)) × (length (digitsAt k n) ≤ suc k)
-unfolding digitsAt
-length-at zero n = omega arith
-length-at (suc k) n = length-cond (ltb n 10) n (suc k) (digitsAt k (n / 10)) (length-at k (n / 10))
-
--- a leading 0 is that of 0
-head-at : (k n : ℕ) → n < 10 ^ suc k → getD (digitsAt k n) 0 0 ≡ 48 → n ≡ 0
-unfolding digitsAt
-head-at zero n h e = omega arith
-head-at (suc k) n h e =
-    ⊎-elim
-    (λ l. let f = simp (lt-ltb n 10 l) at e in omega arith)
-    (λ l.
-    let p = pow-suc 10 (suc k) in
-    let q : n / 10 < 10 ^ suc k = omega arith in
-    let f = simp (le-ltb n 10 l) at e in
-    let a = List·getD-append (digitsAt k (n / 10)) ((48 + n % 10) ∷ []) 0 0 (length-at k (n / 10) .0) in
-    let z : n / 10 ≡ 0 = head-at k (n / 10) q (sym a ∙ f) in
-    omega arith)
-    (lt-or-ge n 10)
-
-zero-at : (n : ℕ) → n ≡ 0 → length (digitsOf n) ≡ 1
-unfolding digitsAt
-zero-at n e = rw e
-
+-- ---- one way: what is written is read
 pub write-then-read : WriteThenRead
 write-then-read n h =
-    number-good (digitsOf n) (length-at 19 n .0) (digits-at-most 8 19 n h)
-    (λ one lead. one (zero-at n (head-at 19 n (omega arith) lead)))
+    number-good (digitsOf n) (digits-pos 19 n) (digits-at-most 8 19 n h)
+    (λ one lead. one (zero-one n (digits-lead 19 n (omega arith) lead)))
     ∙ value-at 19 n (omega arith)
 
 pub every-number : EveryNumber

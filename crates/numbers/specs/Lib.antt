@@ -1,4 +1,3 @@
-pub mod Digits
 pub mod Field
 pub mod Number
 pub mod Theorems

@@ -2,8 +2,8 @@
 use mathlib.Core.Path.{_≡_}
 use mathlib.Core.List.{List}
 use Prim.Native.Nat.{ℕ, _<_, _^_}
+use Rattle.digits.specs.Digits.{digitsOf}
 use Rattle.numbers.specs.declared.Number.the-variants.{Value}
-use Rattle.numbers.specs.Digits.{digitsOf}
 use Rattle.numbers.specs.Number.{valueFrom, numberOf}
 
 -- a number of at most nine digits, written and read, is the same number

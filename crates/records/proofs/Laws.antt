@@ -7,7 +7,7 @@ use native.Mathlib.Numerals.{add-one}
 use lib.ListN.{length, set, length-append}
 use lib.Seq.{sets}
 use Rattle.buffers.proofs.Laws.{sets-append}
-use Rattle.numbers.specs.Digits.{digitsOf}
+use Rattle.digits.specs.Digits.{digitsOf}
 use Rattle.records.specs.Record.{fieldText, recordText}
 
 -- ---- a field

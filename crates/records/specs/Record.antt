@@ -1,7 +1,7 @@
 -- The text of a field and of a record. Assumes nothing.
 use Prim.Native.Nat.{ℕ}
 use mathlib.Core.List.{List, [], _∷_, _++_}
-use Rattle.numbers.specs.Digits.{digitsOf}
+use Rattle.digits.specs.Digits.{digitsOf}
 
 -- the digits of a number, and a byte behind them
 abbrev pub fieldText : ℕ → ℕ → List ℕ

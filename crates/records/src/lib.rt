@@ -10,8 +10,8 @@ ghost use Rattle.records.specs.Record.{fieldText, recordText};
 use buffers::Written;
 use buffers::fits;
 use buffers::write_bytes;
-use numbers::digit_count;
-use numbers::write_number;
+use digits::digit_count;
+use digits::write_number;
 use refusals::Refusal;
 
 // The digits of n and a byte behind them, at a place where they fit, and the place behind that.

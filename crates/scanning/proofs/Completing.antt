@@ -10,8 +10,8 @@ use lib.Seq.{drop-cons, drop-drop, take-add, length-take-le}
 use Rattle.lines.specs.Ascii.{bytes}
 use Rattle.lines.specs.Lines.{upTo}
 use Rattle.lines.proofs.Laws.{up-append, none-append, none-one}
-use Rattle.numbers.specs.Digits.{digitsOf}
-use Rattle.numbers.proofs.Laws.{none-digits}
+use Rattle.digits.specs.Digits.{digitsOf}
+use Rattle.digits.proofs.Laws.{none-digits}
 use Rattle.records.specs.Record.{fieldText}
 use Rattle.steps.specs.declared.reading.CueNumbers.{CueNumbers}
 use Rattle.steps.specs.declared.reading.Step.{Step}

@@ -6,9 +6,10 @@ use native.Mathlib.Omega.{arith}
 use lib.ListN.{length, getD, take, drop, length-drop, length-append}
 use lib.Seq.{drop-cons, getD-drop, getD-take, length-take-le}
 use Rattle.numbers.specs.declared.Number.the-variants.{Value}
-use Rattle.numbers.specs.Digits.{digitsOf}
+use Rattle.digits.specs.Digits.{digitsOf}
 use Rattle.numbers.specs.Number.{valueFrom}
-use Rattle.numbers.proofs.Laws.{ten-more, value-more, value-end, number-good, digits-small}
+use Rattle.digits.proofs.Laws.{digits-small}
+use Rattle.numbers.proofs.Laws.{ten-more, value-more, value-end, number-good}
 use Rattle.numbers.proofs.Theorems.{read-is-canonical}
 use Rattle.records.specs.Record.{fieldText}
 use Rattle.scanning.specs.declared.quick.Short.{Short}

@@ -5,7 +5,7 @@ ghost use mathlib.Core.Bool.{true, false};
 ghost use mathlib.Core.List.{[], _∷_, _++_};
 ghost use Prim.Native.Nat.{_+_, _≤_, _<_};
 ghost use lib.ListN.{length, getD};
-ghost use Rattle.numbers.specs.Digits.{digitsOf};
+ghost use Rattle.digits.specs.Digits.{digitsOf};
 ghost use Rattle.records.specs.Record.{fieldText};
 ghost use Rattle.steps.specs.StepText.{callText, NineDigitCall};
 ghost use Rattle.scanning.specs.Quick.{Stands, wordText, isNumberWord};

@@ -7,7 +7,7 @@ use Rattle.refusals.specs.declared.Refusal.{Refusal}
 use Rattle.refusals.specs.declared.Refusal.the-variants.{Malformed, CueOutOfRange, ScriptFull}
 use Rattle.lines.specs.Ascii.{bytes}
 use Rattle.lines.specs.Lines.{upTo, onto, linesOf}
-use Rattle.numbers.specs.Digits.{digitsAt}
+use Rattle.digits.specs.Digits.{digitsAt}
 use Rattle.numbers.specs.Number.{valueFrom, numberOf}
 use Rattle.cues.specs.Cue.{keyOf}
 use Rattle.cue_lines.specs.CueLine.{fieldsOf}

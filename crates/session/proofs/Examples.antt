@@ -5,7 +5,7 @@ use mathlib.Core.Path.{_≡_, refl}
 use mathlib.Core.List.{List, [], _∷_, _++_, map}
 use Rattle.lines.specs.Ascii.{bytes}
 use Rattle.lines.specs.Lines.{upTo, onto, linesOf}
-use Rattle.numbers.specs.Digits.{digitsAt}
+use Rattle.digits.specs.Digits.{digitsAt}
 use Rattle.numbers.specs.Number.{valueFrom, numberOf}
 use Rattle.records.specs.Record.{recordText}
 use Rattle.cue_lines.specs.CueLine.{fieldsOf}

@@ -30,8 +30,8 @@ use Rattle.refusals.specs.declared.Refusal.the-variants.{
 use Rattle.lines.specs.Ascii.{bytes}
 use Rattle.lines.specs.Lines.{upTo, linesOf}
 use Rattle.lines.proofs.Laws.{lines-append}
-use Rattle.numbers.specs.Digits.{digitsAt, digitsOf}
-use Rattle.numbers.proofs.Laws.{digits-at-most}
+use Rattle.digits.specs.Digits.{digitsAt, digitsOf}
+use Rattle.digits.proofs.Laws.{digits-at-most}
 use Rattle.records.specs.Record.{fieldText}
 use Rattle.records.proofs.Laws.{field-length, record-length}
 use Rattle.cues.specs.Cue.{cueOf}

@@ -12,8 +12,8 @@ use Rattle.buffers.specs.declared.Written.the-variants.{Upto}
 use Rattle.buffers.specs.Written.{writtenAt}
 use Rattle.buffers.proofs.Laws.{sets-append, written}
 use Rattle.lines.specs.Ascii.{bytes}
-use Rattle.numbers.specs.Digits.{digitsAt}
-use Rattle.numbers.proofs.Laws.{digits-small}
+use Rattle.digits.specs.Digits.{digitsAt}
+use Rattle.digits.proofs.Laws.{digits-small}
 use Rattle.records.specs.Record.{fieldText, recordText}
 
 -- ---- stores

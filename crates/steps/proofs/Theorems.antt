@@ -3,7 +3,7 @@ use mathlib.Core.Path.{_≡_, refl, sym, ap, _∙_, subst}
 use mathlib.Core.List.{List, _∷_, _++_}
 use Prim.Native.Nat.{ℕ}
 use Rattle.lines.specs.Lines.{upTo}
-use Rattle.numbers.specs.Digits.{digitsOf}
+use Rattle.digits.specs.Digits.{digitsOf}
 use Rattle.numbers.specs.Number.{numberOf}
 use Rattle.numbers.specs.declared.Number.{Number}
 use Rattle.numbers.specs.declared.Number.the-variants.{Value}

@@ -16,7 +16,7 @@ use buffers::write_bytes;
 use cue_texts::cue_length;
 use cue_texts::write_cue;
 use cues::Cue;
-use numbers::digit_count;
+use digits::digit_count;
 use records::write_field;
 use refusals::Refusal;
 

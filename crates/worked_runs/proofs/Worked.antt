@@ -1,7 +1,7 @@
 -- The worked steps of document 01, each computed. Assumes nothing.
 use mathlib.Core.Path.{refl}
 use Rattle.lines.specs.Lines.{upTo, onto, linesOf}
-use Rattle.numbers.specs.Digits.{digitsAt}
+use Rattle.digits.specs.Digits.{digitsAt}
 use Rattle.numbers.specs.Number.{valueFrom, numberOf}
 use Rattle.records.specs.Record.{recordText}
 use Rattle.cue_lines.specs.CueLine.{fieldsOf}

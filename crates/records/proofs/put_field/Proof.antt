@@ -4,7 +4,7 @@ use Prim.Native.Nat.{ℕ, _+_, _≤_}
 use native.Mathlib.Omega.{arith}
 use lib.ListN.{length, set}
 use lib.Seq.{sets}
-use Rattle.numbers.specs.Digits.{digitsOf}
+use Rattle.digits.specs.Digits.{digitsOf}
 use Rattle.buffers.proofs.Answers.{put-there, not-refused}
 use Rattle.records.proofs.Laws.{field-length, field-stored}
 use borrow.Author.Needs.{needs}

@@ -3,7 +3,7 @@
 use Prim.Native.Nat.{_+_}
 use native.Mathlib.Omega.{arith}
 use mathlib.Core.List.{_++_}
-use Rattle.numbers.specs.Digits.{digitsOf}
+use Rattle.digits.specs.Digits.{digitsOf}
 use Rattle.records.specs.Record.{fieldText}
 use Rattle.scanning.specs.Quick.{wordText}
 use Rattle.scanning.proofs.Numbers.{nine-digits}

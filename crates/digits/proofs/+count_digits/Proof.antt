@@ -1,17 +1,17 @@
--- `numbers::count_digits` meets its contract; the measure is `k`, the digits that may still come. Assumes nothing.
+-- `digits::count_digits` meets its contract; the measure is `k`, the digits that may still come. Assumes nothing.
 use mathlib.Core.Path.{ap}
 use lib.ListN.{length}
 use borrow.Author.Needs.{needs}
 use native.Mathlib.Omega.{arith}
-use Rattle.numbers.proofs.Laws.{digits-last, digits-small, more-length}
+use Rattle.digits.proofs.Laws.{digits-last, digits-small, more-length}
 use Prim.Native.Nat.{ℕ, _<_}
 use borrow.Fn.Kinds.{In}
 use borrow.Fn.PlainCycle.{Measures, is, falls, and}
-use Rattle.numbers.proofs.count_digits.Reads as count-digits
-use Rattle.numbers.proofs.count_digits.Kinds as count-digits-kinds
-use Rattle.numbers.proofs.+count_digits.Lts-count_digits as count-digits-lts
-use Rattle.numbers.proofs.+count_digits.{statement}
-use Rattle.numbers.proofs.+count_digits.Tie.{close}
+use Rattle.digits.proofs.count_digits.Reads as count-digits
+use Rattle.digits.proofs.count_digits.Kinds as count-digits-kinds
+use Rattle.digits.proofs.+count_digits.Lts-count_digits as count-digits-lts
+use Rattle.digits.proofs.+count_digits.{statement}
+use Rattle.digits.proofs.+count_digits.Tie.{close}
 
 abbrev μ-count-digits : Measures 0 count-digits-kinds.ps ℕ
 μ-count-digits κs a = a .1 .0

@@ -1,16 +1,16 @@
--- `numbers::put_digits` meets its contract; the measure is `k`, the digits that may still come. Assumes nothing.
+-- `digits::put_digits` meets its contract; the measure is `k`, the digits that may still come. Assumes nothing.
 use lib.ListN.{length-set}
 use borrow.Author.Needs.{needs}
 use native.Mathlib.Omega.{arith}
-use Rattle.numbers.proofs.Laws.{digits-pos, digits-last, digits-small, more-length, one-stored, more-stored}
+use Rattle.digits.proofs.Laws.{digits-pos, digits-last, digits-small, more-length, one-stored, more-stored}
 use Prim.Native.Nat.{ℕ, _<_}
 use borrow.Fn.Kinds.{In}
 use borrow.Fn.PlainCycle.{Measures, is, falls, and}
-use Rattle.numbers.proofs.put_digits.Reads as put-digits
-use Rattle.numbers.proofs.put_digits.Kinds as put-digits-kinds
-use Rattle.numbers.proofs.+put_digits.Lts-put_digits as put-digits-lts
-use Rattle.numbers.proofs.+put_digits.{statement}
-use Rattle.numbers.proofs.+put_digits.Tie.{close}
+use Rattle.digits.proofs.put_digits.Reads as put-digits
+use Rattle.digits.proofs.put_digits.Kinds as put-digits-kinds
+use Rattle.digits.proofs.+put_digits.Lts-put_digits as put-digits-lts
+use Rattle.digits.proofs.+put_digits.{statement}
+use Rattle.digits.proofs.+put_digits.Tie.{close}
 
 abbrev μ-put-digits : Measures 1 put-digits-kinds.ps ℕ
 μ-put-digits κs a = a .1 .1 .1 .0

@@ -1,7 +1,7 @@
--- `numbers::digit_count` meets its contract. Assumes nothing.
+-- `digits::digit_count` meets its contract. Assumes nothing.
 use borrow.Author.Needs.{needs}
-use Rattle.numbers.proofs.digit_count.Statement.{statement}
-use Rattle.numbers.proofs.digit_count.Tie as tie
+use Rattle.digits.proofs.digit_count.Statement.{statement}
+use Rattle.digits.proofs.digit_count.Tie as tie
 
 count-digits-requires : tie.Need-count-digits-requires
 count-digits-requires c κs = search needs

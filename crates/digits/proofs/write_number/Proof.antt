@@ -1,9 +1,9 @@
--- `numbers::write_number` meets its contract. Assumes nothing.
+-- `digits::write_number` meets its contract. Assumes nothing.
 use Rattle.buffers.proofs.Laws.{written, too-short, room, no-room}
-use Rattle.numbers.specs.Digits.{digitsOf}
+use Rattle.digits.specs.Digits.{digitsOf}
 use borrow.Author.Needs.{needs}
-use Rattle.numbers.proofs.write_number.Statement.{statement}
-use Rattle.numbers.proofs.write_number.Tie as tie
+use Rattle.digits.proofs.write_number.Statement.{statement}
+use Rattle.digits.proofs.write_number.Tie as tie
 
 digit-count-requires : tie.Need-digit-count-requires
 digit-count-requires c κs = search needs
