@@ -52,8 +52,8 @@ fn in_script(script: &[u64; 257], key: u64) -> bool
     ensures { λ r. ⌜ r ≡ memberOf key (scriptIn (now (script .entry))) ⌝ }
 {
     let n = script[SCRIPT_COUNT] as usize;
-    let at = tables::rank(script, n, key);
-    tables::stands_at(script, n, at, key)
+    let at = ranks::rank(script, n, key);
+    ranks::stands_at(script, n, at, key)
 }
 
 // The entry that the call would note, which would be the newest.

@@ -9,10 +9,10 @@ ghost use lib.ListN.{length};
 ghost use Rattle.tables.specs.Table.{Ordered, memberOf, insertOf, deleteOf, putOnceOf};
 ghost use Rattle.boosting.specs.Object.{tail};
 ghost use Rattle.counted_tables.specs.Tables.{keysIn, TableFits, Holds};
+use ranks::rank;
+use ranks::stands_at;
 use tables::insert_at;
-use tables::rank;
 use tables::remove_at;
-use tables::stands_at;
 
 // Whether the key stands in the table.
 pub fn has_key(table: &[u64], capacity: usize, key: u64) -> bool
@@ -32,7 +32,7 @@ pub fn put_once(table: &mut [u64], capacity: usize, key: u64) -> bool
     ensures { λ r. ⌜ Holds capacity (now (table .exit)) (putOnceOf key (keysIn capacity (now (table .entry)))) ⌝ }
 {
     let n = table[capacity] as usize;
-    let m = tables::put_once(table, n, key);
+    let m = ranks::put_once(table, n, key);
     table[capacity] = m as u64;
     n < m
 }

@@ -12,10 +12,10 @@ use cue_lines::CueLine;
 use cue_lines::read_cue;
 use cues::cue_key;
 use lines::find_byte;
+use ranks::rank;
+use ranks::stands_at;
 use refusals::Refusal;
 use tables::insert_at;
-use tables::rank;
-use tables::stands_at;
 
 // The keys of the cues, strictly rising, in the first `count` words.
 pub struct Script {

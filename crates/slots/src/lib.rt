@@ -67,8 +67,8 @@ fn reserve_entry(keys: &mut [u64], n: usize, entry: Entry) -> usize
         × (r ≤ n + 1) ⌝ }
 {
     match entry {
-        Entry::Added(key) => tables::put_once(keys, n, key),
-        Entry::Removed(key) => tables::put_once(keys, n, key),
+        Entry::Added(key) => ranks::put_once(keys, n, key),
+        Entry::Removed(key) => ranks::put_once(keys, n, key),
         Entry::Pushed(_) => n,
         Entry::Taken(_) => n,
     }
@@ -123,6 +123,6 @@ pub fn script_full(script: &[u64; 257], ts: &[[u64; 64]; 8], key: u64) -> bool
     if n < 256 {
         return false;
     }
-    let at = tables::rank(&keys, n, key);
-    !tables::stands_at(&keys, n, at, key)
+    let at = ranks::rank(&keys, n, key);
+    !ranks::stands_at(&keys, n, at, key)
 }

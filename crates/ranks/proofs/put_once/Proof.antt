@@ -1,11 +1,11 @@
--- `tables::put_once` meets its contract. Assumes nothing.
+-- `ranks::put_once` meets its contract. Assumes nothing.
 use mathlib.Core.Path.{sym, _∙_}
 use native.Mathlib.Omega.{arith}
 use borrow.Author.Needs.{needs}
 use lib.ListN.{take}
-use Rattle.tables.proofs.Laws.{once-there, once-new}
-use Rattle.tables.proofs.put_once.Statement.{statement}
-use Rattle.tables.proofs.put_once.Tie as tie
+use Rattle.ranks.proofs.Laws.{once-there, once-new}
+use Rattle.ranks.proofs.put_once.Statement.{statement}
+use Rattle.ranks.proofs.put_once.Tie as tie
 
 rank-requires : tie.Need-rank-requires
 rank-requires c κs = search needs

@@ -1,14 +1,15 @@
--- `tables::stands_at` meets its contract. Assumes nothing.
+-- `ranks::stands_at` meets its contract. Assumes nothing.
 use Prim.Native.Nat.{_<_}
 use mathlib.Core.Path.{_≡_, sym, _∙_}
 use native.Mathlib.Omega.{arith}
 use lib.ListN.{length, take}
 use lib.Seq.{length-take-le, getD-take}
 use Rattle.tables.specs.Table.{rankOf}
-use Rattle.tables.proofs.Laws.{member-rank, member-end}
+use Rattle.tables.proofs.Laws.{member-end}
+use Rattle.ranks.proofs.Laws.{member-rank}
 use borrow.Author.Needs.{needs}
-use Rattle.tables.proofs.stands_at.Statement.{statement}
-use Rattle.tables.proofs.stands_at.Tie as tie
+use Rattle.ranks.proofs.stands_at.Statement.{statement}
+use Rattle.ranks.proofs.stands_at.Tie as tie
 
 mul-result : tie.Need-mul-result
 mul-result c = search needs

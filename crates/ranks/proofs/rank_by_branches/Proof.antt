@@ -1,13 +1,13 @@
--- `tables::rank_by_branches` meets its contract: the ends bracket the rank. Assumes nothing.
+-- `ranks::rank_by_branches` meets its contract: the ends bracket the rank. Assumes nothing.
 use Prim.Native.Nat.{ℕ, _+_, _-_, _≤_, _<_, _/_}
 use mathlib.Core.Path.{_≡_}
 use native.Mathlib.Omega.{arith}
 use lib.ListN.{length, take}
 use lib.Seq.{length-take-le, getD-take}
 use Rattle.tables.specs.Table.{rankOf}
-use Rattle.tables.proofs.Laws.{rank-up, rank-down, rank-le}
-use Rattle.tables.proofs.rank_by_branches.Statement.{statement}
-use Rattle.tables.proofs.rank_by_branches.Tie as tie
+use Rattle.ranks.proofs.Laws.{rank-up, rank-down, rank-le}
+use Rattle.ranks.proofs.rank_by_branches.Statement.{statement}
+use Rattle.ranks.proofs.rank_by_branches.Tie as tie
 
 abbrev Inv-loop : tie.InvT-loop
 Inv-loop keys n key lo₀ hi₀ lo hi = (lo ≤ rankOf key (take n keys)) × (rankOf key (take n keys) ≤ hi) × (hi ≤ n)

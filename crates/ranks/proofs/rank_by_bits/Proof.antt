@@ -1,4 +1,4 @@
--- `tables::rank_by_bits` meets its contract: the rank is among the `left` places behind `lo`. Assumes nothing.
+-- `ranks::rank_by_bits` meets its contract: the rank is among the `left` places behind `lo`. Assumes nothing.
 use Prim.Native.Nat.{ℕ, _+_, _-_, _≤_, _<_, _/_}
 use mathlib.Core.Path.{_≡_, ap, sym, _∙_}
 use mathlib.Core.Bool.{cond}
@@ -6,10 +6,10 @@ use native.Mathlib.Omega.{arith}
 use lib.Dec.{ltb}
 use lib.ListN.{length, take, getD}
 use lib.Seq.{length-take-le, getD-take}
 use Rattle.tables.specs.Table.{rankOf}
-use Rattle.tables.proofs.Laws.{rank-le, below-last, narrowed, settled}
-use Rattle.tables.proofs.rank_by_bits.Statement.{statement}
-use Rattle.tables.proofs.rank_by_bits.Tie as tie
+use Rattle.ranks.proofs.Laws.{rank-le, below-last, narrowed, settled}
+use Rattle.ranks.proofs.rank_by_bits.Statement.{statement}
+use Rattle.ranks.proofs.rank_by_bits.Tie as tie
 
 abbrev Inv-loop : tie.InvT-loop
 Inv-loop keys n key lo₀ left₀ lo left =

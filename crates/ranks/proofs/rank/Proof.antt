@@ -1,14 +1,14 @@
--- `tables::rank` meets its contract: behind the last key, or found by one of the searches. Assumes nothing.
+-- `ranks::rank` meets its contract: behind the last key, or found by one of the searches. Assumes nothing.
 use Prim.Native.Nat.{ℕ, _+_, _-_, _≤_, _<_}
 use mathlib.Core.Path.{_≡_}
 use native.Mathlib.Omega.{arith}
 use lib.ListN.{length, take, getD}
 use lib.Seq.{length-take-le, getD-take}
 use borrow.Author.Needs.{needs}
 use Rattle.tables.specs.Table.{rankOf}
-use Rattle.tables.proofs.Laws.{rank-le, rank-up}
-use Rattle.tables.proofs.rank.Statement.{statement}
-use Rattle.tables.proofs.rank.Tie as tie
+use Rattle.ranks.proofs.Laws.{rank-le, rank-up}
+use Rattle.ranks.proofs.rank.Statement.{statement}
+use Rattle.ranks.proofs.rank.Tie as tie
 
 returns : tie.Need-returns
 returns c =

@@ -1,13 +1,13 @@
--- `tables::if_below` meets its contract: the top bit of the difference is 1 or 0. Assumes nothing.
+-- `ranks::if_below` meets its contract: the top bit of the difference is 1 or 0. Assumes nothing.
 use Prim.Native.Nat.{ℕ, _+_, _-_, _*_, _/_, _<_, _≤_}
 use mathlib.Core.Path.{_≡_}
 use mathlib.Core.Bool.{cond}
 use native.Mathlib.Omega.{arith}
 use lib.Dec.{ltb}
 use borrow.Author.Needs.{needs}
-use Rattle.tables.proofs.Laws.{top-bit, times-bit, counted}
-use Rattle.tables.proofs.if_below.Statement.{statement}
-use Rattle.tables.proofs.if_below.Tie as tie
+use Rattle.ranks.proofs.Laws.{top-bit, times-bit, counted}
+use Rattle.ranks.proofs.if_below.Statement.{statement}
+use Rattle.ranks.proofs.if_below.Tie as tie
 
 add-result : tie.Need-add-result
 add-result c = search needs
