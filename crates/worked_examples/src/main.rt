@@ -1,25 +1,35 @@
 // The worked lines of document 01 through the running code: those marked †, which `worked_runs` also proves of the
 // model, the others, the small example of each row of the table of refusals, the printed run and the traps.
 //
-// Prints a line for each, `ok` or `WRONG` with its name, and how many are right.
+// Nearly all are plain text, in the file `stdin` beside this folder; the few that are not are made here (`made`). Prints
+// a line for each, `ok` or `WRONG` with its name, then how many are right, and whether there were as many as there are.
 mod cases;
-mod program;
-mod rows;
-mod worked;
+mod listed;
+mod made;
 
+use libc::STDIN_FILENO;
 use libc::STDOUT_FILENO;
 
-fn main() {
-    let mut right = worked::cues_and_places()
-        + worked::queue()
-        + worked::room()
-        + worked::first_rows();
-    right += rows::of_texts()
-        + rows::of_lines()
-        + rows::of_edits()
-        + rows::of_room()
-        + rows::of_buffers();
-    right += program::whole_runs() + program::traps();
+// How many cases there are: 31 in the file, and 7 made here.
+const CASES: u64 = 38;
+
+const MADE: u64 = 7;
+
+fn print_totals(right: u64, met: u64) {
     io::print_decimal(STDOUT_FILENO, right);
-    io::write_all(STDOUT_FILENO, b" of 38 right\n");
+    io::write_all(STDOUT_FILENO, b" of ");
+    io::print_decimal(STDOUT_FILENO, met);
+    if met == CASES {
+        io::write_all(STDOUT_FILENO, b" right\n");
+    } else {
+        io::write_all(STDOUT_FILENO, b" right, WRONG number of cases\n");
+    }
+}
+
+fn main() {
+    let mut text = io::large_buffer();
+    let count = io::read_full(STDIN_FILENO, &mut text);
+    let listed = listed::check_cases(&text[..count]);
+    let right = listed.right + made::of_full_scripts() + made::of_texts() + made::of_buffers();
+    print_totals(right, listed.met + MADE);
 }

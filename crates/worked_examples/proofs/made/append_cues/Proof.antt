@@ -1,12 +1,12 @@
--- `worked_examples::cases::append_cues` meets its contract: the place stays in the buffer. Assumes nothing.
+-- `worked_examples::made::append_cues` meets its contract: the place stays in the buffer. Assumes nothing.
 use mathlib.Core.Path.{_≡_}
 use Prim.Native.Nat.{_-_, _≤_}
 use native.Mathlib.Omega.{arith}
 use lib.ListN.{length}
 use Rattle.worked_examples.proofs.Printed.{counts}
 use borrow.Author.Needs.{needs}
-use Rattle.worked_examples.proofs.cases.append_cues.Statement.{statement}
-use Rattle.worked_examples.proofs.cases.append_cues.Tie as tie
+use Rattle.worked_examples.proofs.made.append_cues.Statement.{statement}
+use Rattle.worked_examples.proofs.made.append_cues.Tie as tie
 
 abbrev Inv-loop : tie.InvT-loop
 Inv-loop buf₀ at first end place₀ time₀ buf place time = (place ≤ length buf) × (length buf ≡ length buf₀)
