@@ -10,10 +10,10 @@ mod made;
 use libc::STDIN_FILENO;
 use libc::STDOUT_FILENO;
 
-// How many cases there are: 31 in the file, and 7 made here.
+// How many cases there are: 36 in the file, and 2 made here.
 const CASES: u64 = 38;
 
-const MADE: u64 = 7;
+const MADE: u64 = 2;
 
 fn print_totals(right: u64, met: u64) {
     io::print_decimal(STDOUT_FILENO, right);
@@ -30,6 +30,6 @@ fn main() {
     let mut text = io::large_buffer();
     let count = io::read_full(STDIN_FILENO, &mut text);
     let listed = listed::check_cases(&text[..count]);
-    let right = listed.right + made::of_full_scripts() + made::of_texts() + made::of_buffers();
+    let right = listed.right + made::of_texts() + made::of_buffers();
     print_totals(right, listed.met + MADE);
 }
