@@ -7,6 +7,7 @@ use formatting::Formatted;
 use formatting::format_script;
 use refusals::refusal_number;
 
+// An input of one byte more than an input may have.
 pub fn of_texts() -> u64
     ensures { λ r. ⌜ r ≤ 1 ⌝ }
 {
@@ -23,11 +24,9 @@ pub fn of_buffers() -> u64
 {
     let mut buf = [b'-'; 5];
     let formatted = format_script(&mut buf, b"0,1,1");
-    let Formatted::Refused(refusal, _) = formatted else {
-        return report(b" 14: room of 5 for 6 bytes", false);
-    };
-    report(
-        b" 14: room of 5 for 6 bytes",
-        refusal_number(refusal) == 14 && same(&buf, b"-----"),
-    )
+    let mut right = false;
+    if let Formatted::Refused(refusal, _) = formatted {
+        right = refusal_number(refusal) == 14 && same(&buf, b"-----");
+    }
+    report(b" 14: room of 5 for 6 bytes", right)
 }
