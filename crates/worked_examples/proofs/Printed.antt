@@ -2,20 +2,14 @@
 use mathlib.Core.Path.{_≡_, refl, sym, ap, _∙_}
 use mathlib.Core.Bool.{Bool, true, false, cond}
 use mathlib.Core.List.{List, [], _∷_, _++_}
-use Prim.Native.Nat.{ℕ, _+_, _≤_}
+use Prim.Native.Nat.{ℕ, _+_}
 use native.Mathlib.Omega.{arith}
 use lib.Dec.{leb}
 use lib.ListN.{length, take, drop}
-use lib.Seq.{length-take-le}
-use Rattle.io.specs.Counts.{Counts}
 use Rattle.refusals.specs.declared.Refusal.the-variants.{BufferTooShort}
 use Rattle.buffers.specs.Written.{placed, writtenAt}
 use Rattle.buffers.specs.declared.Written.{Written}
 use Rattle.buffers.specs.declared.Written.the-variants.{Upto, Refused}
-
--- a place in a buffer counts the bytes in front of it
-pub counts : (n : ℕ) (buf : List ℕ) → n ≤ length buf → Counts n buf
-counts n buf h = (h, sym (length-take-le n buf h))
 
 take-front : (text rest : List ℕ) → take (length text) (text ++ rest) ≡ text
 take-front [] rest = refl
