@@ -19,6 +19,7 @@ use answers::Answer;
 use calls::answer_of;
 use calls::apply;
 use calls::entry_of;
+use new_locks::hold;
 use rollback::roll_back;
 use store_words::Action;
 use store_words::Call;
@@ -27,7 +28,6 @@ use transactions::Lock;
 use transactions::abort;
 use transactions::begin;
 use transactions::close;
-use transactions::hold;
 use undo_logs::Newest;
 use undo_logs::note;
 

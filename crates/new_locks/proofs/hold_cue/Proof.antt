@@ -1,12 +1,13 @@
--- `transactions::hold_cue` meets its contract. Assumes nothing.
+-- `new_locks::hold_cue` meets its contract. Assumes nothing.
 use borrow.Author.Needs.{needs}
 use Prim.Native.Nat.{_<_}
 use native.Mathlib.Omega.{arith}
 use mathlib.Core.Path.{refl, sym, _∙_}
 use lib.ListN.{getD}
-use Rattle.transactions.proofs.Locks.{room-left, held-already, held-now}
-use Rattle.transactions.proofs.hold_cue.Statement.{statement}
-use Rattle.transactions.proofs.hold_cue.Tie as tie
+use Rattle.held_locks.proofs.Full.{room-left}
+use Rattle.new_locks.proofs.Held.{held-already, held-now}
+use Rattle.new_locks.proofs.hold_cue.Statement.{statement}
+use Rattle.new_locks.proofs.hold_cue.Tie as tie
 
 holds-cue-requires : tie.Need-holds-cue-requires
 holds-cue-requires c κs = search needs

@@ -1,4 +1,4 @@
--- `transactions::holds_cue` meets its contract: the sieve or what is left to search decides. Assumes nothing.
+-- `held_locks::holds_cue` meets its contract: the sieve or what is left to search decides. Assumes nothing.
 use Prim.Native.Nat.{_-_, _≤_}
 use mathlib.Core.Path.{_≡_, refl, sym, _∙_}
 use native.Mathlib.Omega.{arith}
@@ -7,8 +7,8 @@ use borrow.Author.Tests.{not-true}
 use lib.ListN.{take, drop, getD}
 use Rattle.tables.specs.Table.{memberOf}
 use Rattle.tables.proofs.Laws.{member-hit, member-miss, member-over}
-use Rattle.transactions.proofs.holds_cue.Statement.{statement}
-use Rattle.transactions.proofs.holds_cue.Tie as tie
+use Rattle.held_locks.proofs.holds_cue.Statement.{statement}
+use Rattle.held_locks.proofs.holds_cue.Tie as tie
 
 abbrev Inv-loop : tie.InvT-loop
 Inv-loop t key n j₀ j = (j ≤ n) × (n ≤ 24) × (memberOf key (drop j (take n t)) ≡ memberOf key (take n t))

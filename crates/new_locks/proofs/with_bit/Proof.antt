@@ -1,11 +1,11 @@
--- `transactions::with_bit` meets its contract. Assumes nothing.
+-- `new_locks::with_bit` meets its contract. Assumes nothing.
 use Prim.Native.Nat.{ℕ}
 use mathlib.Core.Path.{ap}
 use borrow.Author.Needs.{needs}
 use lib.Bits.{bitOr}
-use Rattle.transactions.proofs.Sieve.{bit-made}
-use Rattle.transactions.proofs.with_bit.Statement.{statement}
-use Rattle.transactions.proofs.with_bit.Tie as tie
+use Rattle.new_locks.proofs.Sieve.{bit-made}
+use Rattle.new_locks.proofs.with_bit.Statement.{statement}
+use Rattle.new_locks.proofs.with_bit.Tie as tie
 
 shl-result : tie.Need-shl-result
 shl-result c = search needs

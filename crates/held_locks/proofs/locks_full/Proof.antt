@@ -1,11 +1,11 @@
--- `transactions::locks_full` meets its contract. Assumes nothing.
+-- `held_locks::locks_full` meets its contract. Assumes nothing.
 use borrow.Author.Needs.{needs}
 use mathlib.Core.Path.{ap, sym, _∙_}
 use mathlib.Core.Bool.{not}
 use native.Mathlib.Omega.{arith}
-use Rattle.transactions.proofs.Locks.{not-full, full-unless-held}
-use Rattle.transactions.proofs.locks_full.Statement.{statement}
-use Rattle.transactions.proofs.locks_full.Tie as tie
+use Rattle.held_locks.proofs.Full.{not-full, full-unless-held}
+use Rattle.held_locks.proofs.locks_full.Statement.{statement}
+use Rattle.held_locks.proofs.locks_full.Tie as tie
 
 enum-known-lock : tie.Need-enum-known-lock
 enum-known-lock c = search needs

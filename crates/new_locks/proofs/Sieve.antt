@@ -1,17 +1,12 @@
--- The sieve of the cue locks: a bit that is set stays set, and every key that is held has its bit. Assumes nothing.
+-- The sieve of the cue locks and one more: a bit that is set stays set, and the new key has its bit. Assumes nothing.
 use Prim.Native.Nat.{ℕ, _*_, _/_, _%_, _^_}
-use mathlib.Core.Path.{_≡_, refl, _∙_}
-use mathlib.Core.Bool.{false}
+use mathlib.Core.Path.{_≡_, _∙_}
 use mathlib.Core.List.{List, [], _∷_, _++_}
 use native.Mathlib.Nat.{max-eq-left, one-mul, div-self}
 use native.Mathlib.Omega.{arith}
 use lib.Bits.{bitOr, or-step, or-shr, or-comm}
-use lib.Dec.{eqb}
 use lib.Pow.{shl-exact, pow-pos}
-use borrow.Author.Tests.{eqb-true}
-use Rattle.tables.specs.Table.{memberOf}
-use Rattle.tables.proofs.Laws.{split}
 use Rattle.transactions.specs.View.{HasBit, Sieved}
 
 -- the lowest bit of an or
 odd-or : (a b : ℕ) → a % 2 ≡ 1 → bitOr a b % 2 ≡ 1
@@ -32,13 +27,6 @@ bit-set s k =
 pub sieved-more : (s k : ℕ) (l : List ℕ) → Sieved s l → Sieved (bitOr s (2 ^ (k % 63))) (l ++ (k ∷ []))
 sieved-more s k [] h = (bit-set s k, tt)
 sieved-more s k (x ∷ l) h = (bit-stays s (2 ^ (k % 63)) x (h .0), sieved-more s k l (h .1))
-
--- a key whose bit is not set is none of them
-pub sieved-out : (s k : ℕ) (l : List ℕ) → Sieved s l → (HasBit s k → ⊥) → memberOf k l ≡ false
-unfolding memberOf
-sieved-out s k [] h n = refl
-sieved-out s k (x ∷ l) h n =
-    split (eqb x k) (λ e. absurd (n (rw (eqb-true x k e) at (h .0)))) (λ e. rw e (sieved-out s k l (h .1) n))
 
 -- the code's shift makes the key's bit
 pub bit-made : (k : ℕ) → 1 * 2 ^ (k % 63) % 2 ^ 64 ≡ 2 ^ (k % 63)

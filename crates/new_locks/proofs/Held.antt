@@ -1,22 +1,19 @@
--- The locks in their words: room for one more, and one more held. Assumes nothing.
-use Prim.Native.Nat.{ℕ, _+_, _%_, _^_, _≤_, _<_}
+-- The locks in their words, and one more held. Assumes nothing.
+use Prim.Native.Nat.{ℕ, _+_, _%_, _^_, _<_}
 use mathlib.Core.Path.{_≡_, refl}
-use mathlib.Core.Bool.{Bool, true, false, not}
+use mathlib.Core.Bool.{true, false}
 use mathlib.Core.List.{List, [], _∷_, _++_}
 use native.Mathlib.Numerals.{add-one}
 use native.Mathlib.Omega.{arith}
 use lib.Bits.{bitOr}
 use lib.Dec.{ltb, leb}
-use borrow.Author.Tests.{leb-false, lt-ltb, le-leb, lt-leb}
+use borrow.Author.Tests.{lt-ltb, le-leb}
 use lib.ListN.{length, take, getD, set, length-set}
-use lib.Seq.{take-suc-set, length-take-le}
+use lib.Seq.{take-suc-set}
 use Rattle.tables.specs.Table.{memberOf}
-use Rattle.tables.proofs.Laws.{split}
 use Rattle.boosting.specs.Locks.{cueLock, pushMode, lookMode, takeMode, hold}
-use Rattle.boosting.specs.Room.{locksFull}
 use Rattle.transactions.specs.View.{locksOf, transactionOf, WordsFit, Made, withLock}
-use Rattle.transactions.proofs.Sieve.{sieved-more}
 use Rattle.transactions.proofs.Words.{
   other,
   same,
   keep,
@@ -27,33 +24,11 @@ use Rattle.transactions.proofs.Words.{
   log-fits,
   fits-after,
 }
+use Rattle.new_locks.proofs.Sieve.{sieved-more}
 
 module _ (w : List ℕ) (f : WordsFit w) where
   abbrev cues : List ℕ
   cues = locksOf w .cues
-
-  pub lock-count : length cues ≡ getD w 60 0
-  lock-count = length-take-le (getD w 60 0) w (omega arith)
-
-  -- a 25th cue lock is needed, or not
-  module _ (key : ℕ) where
-    abbrev full : Bool
-    full = locksFull (cueLock key) (locksOf w)
-
-    pub not-full : getD w 60 0 < 24 → full ≡ false
-    not-full h =
-        let e : leb 24 (length cues) ≡ false = lt-leb 24 (length cues) (omega (arith, lock-count)) in
-        split (memberOf key cues) (λ m. rw m) (λ m. rw (m, e))
-
-    pub full-unless-held : 24 ≤ getD w 60 0 → full ≡ not (memberOf key cues)
-    full-unless-held h =
-        let e : leb 24 (length cues) ≡ true = le-leb 24 (length cues) (omega (arith, lock-count)) in
-        split (memberOf key cues) (λ m. rw m) (λ m. rw (m, e))
-
-    pub room-left : memberOf key cues ≡ false → full ≡ false → getD w 60 0 < 24
-    room-left m e =
-        let b : leb 24 (length cues) ≡ false = rw m at e in
-        omega (arith, leb-false 24 (length cues) b, lock-count)
 
   -- a cue lock that is held already, and one that is new
   pub held-already : (key : ℕ) → memberOf key cues ≡ true → Made w (withLock (cueLock key) (transactionOf w))

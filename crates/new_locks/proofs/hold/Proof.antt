@@ -1,8 +1,8 @@
--- `transactions::hold` meets its contract. Assumes nothing.
+-- `new_locks::hold` meets its contract. Assumes nothing.
 use borrow.Author.Needs.{needs}
-use Rattle.transactions.proofs.Locks.{holds-push, holds-look, holds-take}
-use Rattle.transactions.proofs.hold.Statement.{statement}
-use Rattle.transactions.proofs.hold.Tie as tie
+use Rattle.new_locks.proofs.Held.{holds-push, holds-look, holds-take}
+use Rattle.new_locks.proofs.hold.Statement.{statement}
+use Rattle.new_locks.proofs.hold.Tie as tie
 
 enum-known-lock : tie.Need-enum-known-lock
 enum-known-lock c = search needs

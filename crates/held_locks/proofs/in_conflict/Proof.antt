@@ -1,13 +1,13 @@
--- `transactions::in_conflict` meets its contract: by the lock, and by what is held. Assumes nothing.
+-- `held_locks::in_conflict` meets its contract: by the lock, and by what is held. Assumes nothing.
 use mathlib.Core.Path.{_≡_, ap, _∙_}
 use mathlib.Core.Bool.{Bool, not, _||_}
 use lib.Dec.{eqb}
 use lib.ListN.{getD}
 use Rattle.boosting.specs.Locks.{conflicts}
-use Rattle.transactions.proofs.Modes.{either}
+use Rattle.held_locks.proofs.Modes.{either}
 use borrow.Author.Needs.{needs}
-use Rattle.transactions.proofs.in_conflict.Statement.{statement}
-use Rattle.transactions.proofs.in_conflict.Tie as tie
+use Rattle.held_locks.proofs.in_conflict.Statement.{statement}
+use Rattle.held_locks.proofs.in_conflict.Tie as tie
 
 enum-known-lock : tie.Need-enum-known-lock
 enum-known-lock c = search needs

@@ -1,12 +1,12 @@
--- `transactions::may_hold` meets its contract: every cue lock has its bit. Assumes nothing.
+-- `held_locks::may_hold` meets its contract: every cue lock has its bit. Assumes nothing.
 use mathlib.Core.Path.{refl}
 use borrow.Author.Needs.{needs}
 use borrow.Author.Tests.{eqb-false}
 use lib.ListN.{getD}
 use Rattle.transactions.specs.View.{transactionOf}
-use Rattle.transactions.proofs.Sieve.{sieved-out}
-use Rattle.transactions.proofs.may_hold.Statement.{statement}
-use Rattle.transactions.proofs.may_hold.Tie as tie
+use Rattle.held_locks.proofs.Sieve.{sieved-out}
+use Rattle.held_locks.proofs.may_hold.Statement.{statement}
+use Rattle.held_locks.proofs.may_hold.Tie as tie
 
 element-copy-out-result : tie.Need-element-copy-out-result
 element-copy-out-result c = search needs

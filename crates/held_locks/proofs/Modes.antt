@@ -1,9 +1,9 @@
 -- One of two words is not 0 exactly if the two, joined bit by bit, are not. Assumes nothing.
 use Prim.Native.Nat.{ℕ}
-use mathlib.Core.Path.{_≡_, refl}
-use mathlib.Core.Bool.{Bool, true, false, not, _||_}
+use mathlib.Core.Path.{_≡_}
+use mathlib.Core.Bool.{not, _||_}
 use native.Mathlib.Omega.{arith}
-use lib.Bits.{bitOr, bitAnd, or-add-and, and-le-l, and-le-r}
+use lib.Bits.{bitOr, or-add-and, and-le-l, and-le-r}
 use lib.Dec.{eqb}
 use borrow.Author.Tests.{eqb-true, eqb-false, eq-eqb, ne-eqb}
 use Rattle.tables.proofs.Laws.{split}
