@@ -142,7 +142,7 @@ fn call_refusal(
     if let Blocker::By(f) = found {
         return Admission::Refused(Refusal::Blocked(f));
     }
-    if transactions::locks_full(&ts[e - 1], lock) {
+    if held_locks::locks_full(&ts[e - 1], lock) {
         return Admission::Refused(Refusal::LocksFull);
     }
     let entry = entry_of(script, queue, call);

@@ -32,7 +32,7 @@ fn first_candidate(ts: &[[u64; 64]; 8], e: usize, key: u64) -> usize
     let mut i = 8;
     while 0 < i {
         i -= 1;
-        if transactions::may_hold(&ts[i], key) {
+        if held_locks::may_hold(&ts[i], key) {
             first = i;
         }
     }
@@ -50,7 +50,7 @@ fn find_holder(ts: &[[u64; 64]; 8], e: usize, key: u64) -> Blocker
             break 'search Blocker::Nobody;
         }
         if i + 1 != e {
-            if transactions::may_hold(&ts[i], key) {
+            if held_locks::may_hold(&ts[i], key) {
                 let n = ts[i][LOCK_COUNT] as usize;
                 let mut j = 0;
                 while j < n {
@@ -77,7 +77,7 @@ fn find_conflict(ts: &[[u64; 64]; 8], e: usize, lock: Lock) -> Blocker
     while 0 < i {
         let number = i;
         i -= 1;
-        if transactions::in_conflict(&ts[i], lock) {
+        if held_locks::in_conflict(&ts[i], lock) {
             if number != e {
                 found = number;
             }

@@ -23,6 +23,7 @@ use crate::calls::apply;
 use crate::calls::entry_of;
 pub use crate::undo::roll_back;
 use answers::Answer;
+use new_locks::hold;
 use store_words::Action;
 use store_words::Call;
 use store_words::lock_of;
@@ -30,7 +31,6 @@ use transactions::Lock;
 use transactions::abort;
 use transactions::begin;
 use transactions::close;
-use transactions::hold;
 use undo_logs::Newest;
 use undo_logs::note;
 
