@@ -1,4 +1,4 @@
--- Laws of a key's rank: what a look at one key says of it, and where a key is put that stands nowhere yet. Assumes nothing.
+-- Laws of a key's rank: what a look at one key says of it, and where a new key is put. Assumes nothing.
 use mathlib.Core.Path.{_≡_, refl, ap, sym, _∙_}
 use mathlib.Core.Bool.{Bool, true, false, cond}
 use mathlib.Core.List.{List, [], _∷_, _++_}
