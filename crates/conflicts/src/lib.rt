@@ -21,8 +21,8 @@ pub enum Blocker {
     Nobody,
 }
 
-// The first transaction whose sieve lets the key pass, counted from 0; 8 where there is none: nobody before it is in the
-// way of e. Which one that is cannot be guessed, so all are looked at, and nothing branches on what is found.
+// The first transaction whose sieve lets the key pass, counted from 0; 8 where there is none: nobody before it is in
+// the way of e. Which one that is cannot be guessed, so all are looked at, and nothing branches on what is found.
 fn first_candidate(ts: &[[u64; 64]; 8], e: usize, key: u64) -> usize
     requires { ⌜ TransactionsFit (now ts) ⌝ }
     ensures { λ r. ⌜ (blocker e (cueLock key) (r + 1) (drop r (map transactionOf (now (ts .entry))))

@@ -1,7 +1,7 @@
 -- The transaction that 64 words show. Words 0 to 23 are the keys of the cue locks, 24 to 39 the keys of the undo log's
 -- entries and 40 to 55 their kinds, oldest first; 56 is the standing; 57 to 59 are the queue's modes push, look and
--- take, 0 where a mode is not held; 60 counts the cue locks, 61 the entries; 62 is the sieve, which has the bit k % 63 of each cue lock k and is no
--- part of the transaction. Words past a count and 63 mean nothing. Assumes nothing.
+-- take, 0 where a mode is not held; 60 counts the cue locks, 61 the entries; 62 is the sieve, which has the bit k % 63
+-- of each cue lock k and is no part of the transaction. Words past a count and 63 mean nothing. Assumes nothing.
 use Prim.Native.Nat.{ℕ, zero, suc, _+_, _/_, _%_, _^_, _≤_}
 use mathlib.Core.Path.{_≡_}
 use mathlib.Core.Bool.{Bool, cond, not}

@@ -33,8 +33,9 @@ returns-2 c =
     let x = take (a .n) (a .keys .now) in
     let l : length x ≡ a .n = length-take-le (a .n) (a .keys .now) (s .pre .0) in
     let h : a .n - 1 < a .n = omega arith in
+    let e = getD-take (a .n) (a .keys .now) (a .n - 1) 0 h in
     let up : a .n - 1 < rankOf (a .key) x =
-    rank-up (a .key) x (s .pre .1) (a .n - 1) (omega arith) (rw (getD-take (a .n) (a .keys .now) (a .n - 1) 0 h) (c .if2 .taken)) in
+    rank-up (a .key) x (s .pre .1) (a .n - 1) (omega arith) (rw (e) (c .if2 .taken)) in
     omega (arith, rank-le (a .key) x, l, up)
 
 rank-by-bits-requires : tie.Need-rank-by-bits-requires
