@@ -24,19 +24,7 @@ use Rattle.refusals.specs.declared.Refusal.the-variants.{
 use Rattle.refusals.specs.declared.Refusal.the-variants.{Malformed as MalformedLine, Aborting as IsAborting}
 use Rattle.steps.specs.Step.{stepOf}
 use Rattle.steps.specs.declared.reading.Step.{Step}
-use Rattle.steps.specs.declared.reading.Step.the-variants.{
-  Begin,
-  Add,
-  Remove,
-  Has,
-  Push,
-  Min,
-  Take,
-  Commit,
-  Abort,
-  RollBack,
-  Malformed,
-}
+use Rattle.steps.specs.declared.reading.Step.the-variants.{WithNumber, WithCue, Malformed}
 use Rattle.answers.specs.declared.Answer.the-variants.{Refused}
 use Rattle.boosting.specs.Object.{reply}
 use Rattle.boosting.specs.Undo.{Entry, entryOf}
@@ -222,16 +210,8 @@ malformed-request d (request e a) h =
 
 malformed-step : (s : Step) → requestOf s ≡ malformed → s ≡ Malformed
 malformed-step Malformed h = refl
-malformed-step (Begin e) h = cc
-malformed-step (Add e n) h = cc
-malformed-step (Remove e n) h = cc
-malformed-step (Has e n) h = cc
-malformed-step (Push e n) h = cc
-malformed-step (Min e) h = cc
-malformed-step (Take e) h = cc
-malformed-step (Commit e) h = cc
-malformed-step (Abort e) h = cc
-malformed-step (RollBack e) h = cc
+malformed-step (WithNumber w e) h = cc
+malformed-step (WithCue w e n) h = cc
 
 -- row 1 is met exactly by a malformed line
 pub malformed-exactly : MalformedExactly

@@ -8,21 +8,14 @@ use native.Mathlib.Nat.{suc-max-suc, zero-max}
 use native.Mathlib.Omega.{arith}
 use lib.ListN.{length, replicate}
 use Rattle.refusals.specs.declared.Refusal.{Refusal}
+use Rattle.cues.specs.Cue.{CueKey}
 use Rattle.cues.proofs.Theorems.{key-is-cue-key}
 use Rattle.steps.specs.declared.reading.Step.{Step}
-use Rattle.steps.specs.declared.reading.Step.the-variants.{
-  Begin,
-  Add,
-  Remove,
-  Has,
-  Push,
-  Min,
-  Take,
-  Commit,
-  Abort,
-  RollBack,
-  Malformed,
-}
+use Rattle.steps.specs.declared.reading.Step.the-variants.{WithNumber, WithCue, Malformed}
+use Rattle.step_words.specs.declared.NumberWord.{NumberWord}
+use Rattle.step_words.specs.declared.NumberWord.the-variants.{Begin, Min, Take, Commit, Undo, Back}
+use Rattle.step_words.specs.declared.CueWord.{CueWord}
+use Rattle.step_words.specs.declared.CueWord.the-variants.{Add, Remove, Has, Push}
 use Rattle.steps.specs.Step.{stepOf}
 use Rattle.tables.proofs.Laws.{subset-length}
 use Rattle.scripts.proofs.Theorems.{read-is-sound}
@@ -39,13 +32,15 @@ use Rattle.boosting.specs.Rows.{
   Request,
   malformed,
   request,
+  numberAction,
+  cueCall,
   requestOf,
   refusalOf,
 }
 use Rattle.boosting.specs.Step.{perform, decided, stepOn, stepLine}
 use Rattle.boosting.specs.Run.{Run, advance, runFrom}
 use Rattle.boosting.specs.Recovery.{rollBacks, recoverOne, recover}
-use Rattle.boosting.specs.Sound.{AllSound, Sound, RequestKey}
+use Rattle.boosting.specs.Sound.{AllSound, Sound, CallKey, RequestKey}
 use Rattle.boosting.specs.Theorems.{
   OpenedIsSound,
   SteppingKeepsSound,
@@ -90,17 +85,24 @@ opened-is-sound text =
 
 -- ---- one step
 
+number-key : (w : NumberWord) (e : ℕ) → RequestKey (request e (numberAction w))
+number-key Begin e = tt
+number-key Min e = λ h. tt
+number-key Take e = λ h. tt
+number-key Commit e = tt
+number-key Undo e = tt
+number-key Back e = tt
+
+-- a word's call on a cue has the cue's key
+pub cue-call-key : (w : CueWord) (k : ℕ) → CueKey k → CallKey (cueCall w k)
+cue-call-key Add k h = h
+cue-call-key Remove k h = h
+cue-call-key Has k h = h
+cue-call-key Push k h = h
+
 pub request-key : (s : Step) → RequestKey (requestOf s)
-request-key (Begin e) = tt
-request-key (Add e n) = key-is-cue-key _
-request-key (Remove e n) = key-is-cue-key _
-request-key (Has e n) = key-is-cue-key _
-request-key (Push e n) = key-is-cue-key _
-request-key (Min e) = λ h. tt
-request-key (Take e) = λ h. tt
-request-key (Commit e) = tt
-request-key (Abort e) = tt
-request-key (RollBack e) = tt
+request-key (WithNumber w e) = number-key w e
+request-key (WithCue w e n) = λ h. cue-call-key w _ (key-is-cue-key _ h)
 request-key Malformed = tt
 
 perform-sound : (d : Store) (e : ℕ) (a : Action) → Sound d → RequestKey (request e a)

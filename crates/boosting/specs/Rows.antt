@@ -21,19 +21,11 @@ use Rattle.refusals.specs.declared.Refusal.the-variants.{Malformed as Malformed
 use Rattle.cues.specs.Cue.{inRange, keyOf}
 use Rattle.steps.specs.declared.reading.CueNumbers.{CueNumbers}
 use Rattle.steps.specs.declared.reading.Step.{Step}
-use Rattle.steps.specs.declared.reading.Step.the-variants.{
-  Begin,
-  Add,
-  Remove,
-  Has,
-  Push,
-  Min,
-  Take,
-  Commit,
-  Abort,
-  RollBack,
-  Malformed,
-}
+use Rattle.steps.specs.declared.reading.Step.the-variants.{WithNumber, WithCue, Malformed}
+use Rattle.step_words.specs.declared.NumberWord.{NumberWord}
+use Rattle.step_words.specs.declared.NumberWord.the-variants.{Begin, Min, Take, Commit, Undo, Back}
+use Rattle.step_words.specs.declared.CueWord.{CueWord}
+use Rattle.step_words.specs.declared.CueWord.the-variants.{Add, Remove, Has, Push}
 use Rattle.boosting.specs.Object.{Call, add, remove, has, push, min, take, reply}
 use Rattle.boosting.specs.Undo.{entryOf}
 use Rattle.boosting.specs.Locks.{lockOf}
@@ -49,6 +41,23 @@ pub data Request : Type 0 where
   malformed : Request
   request : ℕ → Action → Request
 
+-- what a word asks for that has only the transaction's number behind it: the papers' `undo` is an abort, their `back` a
+-- rollback step
+abbrev pub numberAction : NumberWord → Action
+numberAction Begin = begin
+numberAction Min = call true min
+numberAction Take = call true take
+numberAction Commit = commit
+numberAction Undo = abort
+numberAction Back = rollBack
+
+-- the call of a word on the cue with a key
+abbrev pub cueCall : CueWord → ℕ → Call
+cueCall Add k = add k
+cueCall Remove k = remove k
+cueCall Has k = has k
+cueCall Push k = push k
+
 -- a call on the cue of these numbers
 abbrev pub onCueOf : CueNumbers → (ℕ → Call) → Action
 onCueOf n c =
@@ -56,16 +65,8 @@ onCueOf n c =
     (c (keyOf (record { time = n .time; «module» = n .«module»; pin = n .pin })))
 
 abbrev pub requestOf : Step → Request
-requestOf (Begin e) = request e begin
-requestOf (Add e n) = request e (onCueOf n add)
-requestOf (Remove e n) = request e (onCueOf n remove)
-requestOf (Has e n) = request e (onCueOf n has)
-requestOf (Push e n) = request e (onCueOf n push)
-requestOf (Min e) = request e (call true min)
-requestOf (Take e) = request e (call true take)
-requestOf (Commit e) = request e commit
-requestOf (Abort e) = request e abort
-requestOf (RollBack e) = request e rollBack
+requestOf (WithNumber w e) = request e (numberAction w)
+requestOf (WithCue w e n) = request e (onCueOf n (cueCall w))
 requestOf Malformed = malformed
 
 abbrev pub isClosed : Standing → Bool

@@ -9,19 +9,9 @@ use Rattle.numbers.specs.Number.{valueFrom, numberOf}
 use Rattle.cue_lines.specs.CueLine.{fieldsOf}
 use Rattle.steps.specs.declared.reading.CueNumbers.{CueNumbers}
 use Rattle.steps.specs.declared.reading.Step.{Step}
-use Rattle.steps.specs.declared.reading.Step.the-variants.{
-  Begin,
-  Add,
-  Remove,
-  Has,
-  Push,
-  Min,
-  Take,
-  Commit,
-  Abort,
-  RollBack,
-  Malformed,
-}
+use Rattle.steps.specs.declared.reading.Step.the-variants.{WithNumber, WithCue, Malformed}
+use Rattle.step_words.specs.declared.NumberWord.the-variants.{Begin, Min, Take, Commit, Undo, Back}
+use Rattle.step_words.specs.declared.CueWord.the-variants.{Add, Remove, Has, Push}
 use Rattle.step_words.specs.Word.{same, wordOf}
 use Rattle.steps.specs.Step.{stepOf}
 
@@ -31,21 +21,21 @@ cue t m p = record { time = t; «module» = m; pin = p }
 -- a line without its LF, and the step that it stands for
 abbrev pub steps : List (String × Step)
 steps =
-    ("begin,1", Begin 1)
-    ∷ ("add,1,1500,2,9", Add 1 (cue 1500 2 9))
-    ∷ ("remove,2,1500,4,12", Remove 2 (cue 1500 4 12))
-    ∷ ("has,1,0,1,1", Has 1 (cue 0 1 1))
-    ∷ ("push,2,900,1,1", Push 2 (cue 900 1 1))
-    ∷ ("min,2", Min 2)
-    ∷ ("take,1", Take 1)
-    ∷ ("commit,1", Commit 1)
-    ∷ ("undo,2", Abort 2)
-    ∷ ("back,2", RollBack 2)
+    ("begin,1", WithNumber Begin 1)
+    ∷ ("add,1,1500,2,9", WithCue Add 1 (cue 1500 2 9))
+    ∷ ("remove,2,1500,4,12", WithCue Remove 2 (cue 1500 4 12))
+    ∷ ("has,1,0,1,1", WithCue Has 1 (cue 0 1 1))
+    ∷ ("push,2,900,1,1", WithCue Push 2 (cue 900 1 1))
+    ∷ ("min,2", WithNumber Min 2)
+    ∷ ("take,1", WithNumber Take 1)
+    ∷ ("commit,1", WithNumber Commit 1)
+    ∷ ("undo,2", WithNumber Undo 2)
+    ∷ ("back,2", WithNumber Back 2)
     -- numbers out of range are read as they stand: rows 2 and 7 are asked later
-    ∷ ("begin,9", Begin 9)
-    ∷ ("add,1,0,1,33", Add 1 (cue 0 1 33))
-    ∷ ("add,9,0,1,0", Add 9 (cue 0 1 0))
-    ∷ ("has,0,999999999,999999999,999999999", Has 0 (cue 999999999 999999999 999999999))
+    ∷ ("begin,9", WithNumber Begin 9)
+    ∷ ("add,1,0,1,33", WithCue Add 1 (cue 0 1 33))
+    ∷ ("add,9,0,1,0", WithCue Add 9 (cue 0 1 0))
+    ∷ ("has,0,999999999,999999999,999999999", WithCue Has 0 (cue 999999999 999999999 999999999))
     -- an empty line, a CR, a space, a sign, a leading zero, ten digits, an empty field
     ∷ ("", Malformed)
     ∷ ("begin,1\r", Malformed)

@@ -25,12 +25,10 @@ use Rattle.cue_lines.specs.CueLine.{others, threeNumbers, fieldsOf}
 use Rattle.cue_lines.specs.declared.Fields.the-variants.{Numbers}
 use Rattle.steps.specs.declared.reading.CueNumbers.{CueNumbers}
 use Rattle.step_words.specs.declared.NumberWord.{NumberWord}
-use Rattle.step_words.specs.declared.NumberWord.the-variants.{Begin, Min, Take, Commit, Undo, Back}
 use Rattle.step_words.specs.declared.CueWord.{CueWord}
-use Rattle.step_words.specs.declared.CueWord.the-variants.{Add, Remove, Has, Push}
-use Rattle.steps.specs.Step.{numberStep, numbered, cueStep, cued}
-use Rattle.steps.specs.StepText.{callText, stepText, NineDigits, NineDigitCall, NineDigitStep}
-use Rattle.step_words.proofs.WordText.{numberWord, cueWord}
+use Rattle.steps.specs.declared.reading.Step.the-variants.{WithNumber, WithCue}
+use Rattle.steps.specs.Step.{numbered, cued}
+use Rattle.steps.specs.StepText.{callText, NineDigits, NineDigitCall}
 use Rattle.steps.proofs.Steps.{number-nil}
 
 -- ---- written, then read
@@ -61,11 +59,11 @@ call-fields : (e : ℕ) (c : CueNumbers)
 unfolding callText
 call-fields e c = simp append-assoc
 
-pub number-written : (k : NumberWord) (e : ℕ) → NineDigits e → numbered k (numberOf (digitsOf e)) ≡ numberStep k e
+pub number-written : (k : NumberWord) (e : ℕ) → NineDigits e → numbered k (numberOf (digitsOf e)) ≡ WithNumber k e
 number-written k e h = rw (write-then-read e h)
 
 pub call-written : (k : CueWord) (e : ℕ) (c : CueNumbers) → NineDigitCall e c
-    → cued k (numberOf (field (callText e c))) (fieldsOf (others (callText e c))) ≡ cueStep k e c
+    → cued k (numberOf (field (callText e c))) (fieldsOf (others (callText e c))) ≡ WithCue k e c
 call-written k e c h =
     let cue = digitsOf (c .time) ++ 44 ∷ (digitsOf (c .«module») ++ 44 ∷ digitsOf (c .pin)) in
     let v : numberOf (field (callText e c)) ≡ Value e =
@@ -139,20 +137,3 @@ call-canonical r e t m p ve f =
       record { transaction = ce .1; time = ct .1; «module» = cm .1; pin = cp .1 },
       others-not-nil r some-y,
     )
-
--- ---- words
-pub number-text : (k : NumberWord) (e : ℕ) → NineDigits e
-    → (numberWord k ++ 44 ∷ digitsOf e ≡ stepText (numberStep k e)) × NineDigitStep (numberStep k e)
-number-text Begin e h = (refl, h)
-number-text Min e h = (refl, h)
-number-text Take e h = (refl, h)
-number-text Commit e h = (refl, h)
-number-text Undo e h = (refl, h)
-number-text Back e h = (refl, h)
-
-pub call-text : (k : CueWord) (e : ℕ) (c : CueNumbers) → NineDigitCall e c
-    → (cueWord k ++ 44 ∷ callText e c ≡ stepText (cueStep k e c)) × NineDigitStep (cueStep k e c)
-call-text Add e c h = (refl, h)
-call-text Remove e c h = (refl, h)
-call-text Has e c h = (refl, h)
-call-text Push e c h = (refl, h)

@@ -25,15 +25,15 @@ use Rattle.steps.specs.declared.reading.CueNumbers.{CueNumbers}
 use Rattle.step_words.specs.declared.NumberWord.{NumberWord}
 use Rattle.step_words.specs.declared.CueWord.{CueWord}
 use Rattle.step_words.specs.declared.Word.{Word}
-use Rattle.step_words.specs.declared.Word.the-variants.{WithNumber, WithCue, Unknown}
+use Rattle.step_words.specs.declared.Word.the-variants.{WithNumber as numberWord, WithCue as cueWord, Unknown}
 use Rattle.steps.specs.declared.reading.Field.{Field}
 use Rattle.steps.specs.declared.reading.Field.the-variants.{Number as Ended}
 use Rattle.steps.specs.declared.reading.Field.the-variants.{Malformed as NotEnded}
 use Rattle.steps.specs.declared.reading.Step.{Step}
-use Rattle.steps.specs.declared.reading.Step.the-variants.{Malformed}
+use Rattle.steps.specs.declared.reading.Step.the-variants.{WithCue, Malformed}
 use Rattle.step_words.specs.Word.{wordOf}
 use Rattle.steps.specs.Field.{upToPlace, fieldAt, FieldWithin}
-use Rattle.steps.specs.Step.{numberStep, numbered, cueStep, cued, stepWith, stepOf}
+use Rattle.steps.specs.Step.{numbered, cued, stepWith, stepOf}
 
 -- ---- parts of a line
 
@@ -44,13 +44,6 @@ from-start r n h = omega arith
 -- the part behind a place is what is left
 pub rest-is : (l : List ℕ) (a : ℕ) → take (length l - a) (drop a l) ≡ drop a l
 rest-is l a = take-all (length l - a) (drop a l) (omega (arith, length-drop a l))
-
--- ---- the step of a word
-pub number-word : (w k : NumberWord) (n : Number) (e : ℕ) → w ≡ k → n ≡ Value e → numberStep k e ≡ numbered w n
-number-word w k n e ew en = rw (en, ew)
-
-pub cue-word : (w k : CueWord) (e : ℕ) (c : CueNumbers) → w ≡ k → cueStep k e c ≡ cueStep w e c
-cue-word w k e c ew = rw ew
 
 -- ---- what a field at a place says of the line from there on
 pub number-nil : numberOf [] ≡ NoNumber
@@ -168,14 +161,14 @@ module _ (w : CueWord) (s : List ℕ) (at : ℕ) where
     bad-cue f = sym (rw (ended s at e t-at q .1, f) (no-cue w (numberOf (field (drop at s)))))
 
     pub call-read : (t m p : ℕ) (r : Step) → fieldsOf (drop t-at s) ≡ Numbers t m p
-        → r ≡ cueStep w e (record { time = t; «module» = m; pin = p }) → r ≡ callAt w s at
+        → r ≡ WithCue w e (record { time = t; «module» = m; pin = p }) → r ≡ callAt w s at
     call-read t m p r f er = er ∙ sym (rw (ended s at e t-at q .0, ended s at e t-at q .1, f))
 
 -- ---- the word and the rest of the line
 step-nil : (w : Word) → stepWith w [] ≡ Malformed
 unfolding upTo
-step-nil (WithNumber w) = rw number-nil
-step-nil (WithCue w) = rw number-nil
+step-nil (numberWord w) = rw number-nil
+step-nil (cueWord w) = rw number-nil
 step-nil Unknown = refl
 
 pub no-fields : (l : List ℕ) → upTo 44 l ≡ length l → Malformed ≡ stepOf l
@@ -188,13 +181,13 @@ module _ (l : List ℕ) (end : ℕ) (w : Word) (ee : end ≡ 0 + upTo 44 (drop 0
   step-is : stepWith w (drop (end + 1) l) ≡ stepOf l
   step-is = rw (ew, to-end)
 
-  pub with-number : (k : NumberWord) (n : Number) (r : Step) → w ≡ WithNumber k
+  pub with-number : (k : NumberWord) (n : Number) (r : Step) → w ≡ numberWord k
       → n ≡ numberOf (take (length l - (end + 1)) (drop (end + 1) l)) → r ≡ numbered k n → r ≡ stepOf l
   with-number k n r q en er =
       let m : n ≡ numberOf (drop (end + 1) l) = en ∙ ap numberOf (rest-is l (end + 1)) in
       er ∙ (ap (numbered k) m ∙ (ap (λ (x : Word). stepWith x (drop (end + 1) l)) (sym q) ∙ step-is))
 
-  pub with-cue : (k : CueWord) (r : Step) → w ≡ WithCue k → r ≡ callAt k l (end + 1) → r ≡ stepOf l
+  pub with-cue : (k : CueWord) (r : Step) → w ≡ cueWord k → r ≡ callAt k l (end + 1) → r ≡ stepOf l
   with-cue k r q er = er ∙ (ap (λ (x : Word). stepWith x (drop (end + 1) l)) (sym q) ∙ step-is)
 
   pub no-step : w ≡ Unknown → Malformed ≡ stepOf l

@@ -32,41 +32,39 @@ use Rattle.step_words.specs.declared.CueWord.the-variants.{
   Push as push,
 }
 use Rattle.step_words.specs.declared.Word.{Word}
-use Rattle.step_words.specs.declared.Word.the-variants.{WithNumber, WithCue, Unknown}
+use Rattle.step_words.specs.declared.Word.the-variants.{WithNumber as IsNumberWord, WithCue as IsCueWord, Unknown}
 use Rattle.steps.specs.declared.reading.Step.{Step}
-use Rattle.steps.specs.declared.reading.Step.the-variants.{
-  Begin,
-  Add,
-  Remove,
-  Has,
-  Push,
-  Min,
-  Take,
-  Commit,
-  Abort,
-  RollBack,
-  Malformed,
-}
-use Rattle.step_words.specs.Word.{same, wordOf}
-use Rattle.steps.specs.Step.{numbered, cued, stepWith}
-use Rattle.steps.specs.StepText.{callText, stepText, NineDigitStep}
+use Rattle.steps.specs.declared.reading.Step.the-variants.{WithNumber, WithCue, Malformed}
+use Rattle.step_words.specs.Word.{numberWord, cueWord, same, wordOf}
+use Rattle.steps.specs.Step.{numbered, cued, stepWith, stepOf}
+use Rattle.steps.specs.StepText.{callText, stepText, NineDigits, NineDigitCall, NineDigitStep}
 use Rattle.steps.specs.Theorems.{StepWriteThenRead, StepReadIsCanonical}
-use Rattle.step_words.proofs.WordText.{numberWord, cueWord, IsWord, is-word}
-use Rattle.steps.proofs.StepText.{number-written, call-written, number-text, call-text}
+use Rattle.step_words.proofs.WordText.{IsWord, is-word}
+use Rattle.steps.proofs.StepText.{number-written, call-written}
 use Rattle.steps.proofs.StepText.{at-comma, not-nil, call-canonical}
+
+-- the text of a word is read as that word
+number-line : (k : NumberWord) (e : ℕ) → NineDigits e → stepOf (numberWord k ++ 44 ∷ digitsOf e) ≡ WithNumber k e
+unfolding upTo same wordOf
+number-line begin e h = number-written begin e h
+number-line min e h = number-written min e h
+number-line take e h = number-written take e h
+number-line commit e h = number-written commit e h
+number-line undo e h = number-written undo e h
+number-line back e h = number-written back e h
+
+call-line : (k : CueWord) (e : ℕ) (c : CueNumbers) → NineDigitCall e c
+    → stepOf (cueWord k ++ 44 ∷ callText e c) ≡ WithCue k e c
+unfolding upTo same wordOf
+call-line add e c h = call-written add e c h
+call-line remove e c h = call-written remove e c h
+call-line has e c h = call-written has e c h
+call-line push e c h = call-written push e c h
 
 pub step-write-then-read : StepWriteThenRead
 unfolding upTo same wordOf
-step-write-then-read (Begin e) h = number-written begin e h
-step-write-then-read (Add e c) h = call-written add e c h
-step-write-then-read (Remove e c) h = call-written remove e c h
-step-write-then-read (Has e c) h = call-written has e c h
-step-write-then-read (Push e c) h = call-written push e c h
-step-write-then-read (Min e) h = number-written min e h
-step-write-then-read (Take e) h = number-written take e h
-step-write-then-read (Commit e) h = number-written commit e h
-step-write-then-read (Abort e) h = number-written undo e h
-step-write-then-read (RollBack e) h = number-written back e h
+step-write-then-read (WithNumber k e) h = number-line k e h
+step-write-then-read (WithCue k e c) h = call-line k e c h
 step-write-then-read Malformed h = refl
 
 -- the line is the step's one text
@@ -78,10 +76,8 @@ by-number : (l : List ℕ) (k : NumberWord) (x : Number) → field l ≡ numberW
 by-number l k NoNumber w v some = absurd (some refl)
 by-number l k (Value e) w v some =
     let c = read-is-canonical (others l) e v in
-    let t = number-text k e (c .1) in
     let s = at-comma l (not-nil (others l) e v) in
-    let q : l ≡ numberWord k ++ 44 ∷ digitsOf e = cc (s, w, c .0) in
-    (q ∙ t .0, t .1)
+    ((cc (s, w, c .0)), c .1)
 
 by-cue : (l : List ℕ) (k : CueWord) (x : Number) (f : Fields) → field l ≡ cueWord k → numberOf (field (others l)) ≡ x
     → fieldsOf (others (others l)) ≡ f → (cued k x f ≡ Malformed → ⊥) → Canonical l (cued k x f)
@@ -90,15 +86,14 @@ by-cue l k (Value n) NoCue w v e some = absurd (some refl)
 by-cue l k (Value n) (Numbers t m p) w v e some =
     let c = call-canonical (others l) n t m p v e in
     let cue : CueNumbers = record { time = t; «module» = m; pin = p } in
-    let x = call-text k n cue (c .1) in
     let s = at-comma l (c .2) in
     let q : l ≡ cueWord k ++ 44 ∷ callText n cue = cc (s, w, c .0) in
-    (q ∙ x .0, x .1)
+    (q, c .1)
 
 by-word : (l : List ℕ) (w : Word) → IsWord (field l) w → (stepWith w (others l) ≡ Malformed → ⊥)
     → Canonical l (stepWith w (others l))
-by-word l (WithNumber k) e some = by-number l k (numberOf (others l)) e refl some
-by-word l (WithCue k) e some =
+by-word l (IsNumberWord k) e some = by-number l k (numberOf (others l)) e refl some
+by-word l (IsCueWord k) e some =
     by-cue l k (numberOf (field (others l))) (fieldsOf (others (others l))) e refl refl some
 by-word l Unknown e some = absurd (some refl)
 

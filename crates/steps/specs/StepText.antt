@@ -1,24 +1,12 @@
 -- The one line of each step, without its LF. Assumes nothing.
 use Prim.Native.Nat.{ℕ, _<_}
-use mathlib.Core.List.{List, [], _++_}
-use Rattle.lines.specs.Ascii.{bytes}
+use mathlib.Core.List.{List, [], _∷_, _++_}
 use Rattle.digits.specs.Digits.{digitsOf}
 use Rattle.records.specs.Record.{fieldText}
 use Rattle.steps.specs.declared.reading.CueNumbers.{CueNumbers}
 use Rattle.steps.specs.declared.reading.Step.{Step}
-use Rattle.steps.specs.declared.reading.Step.the-variants.{
-  Begin,
-  Add,
-  Remove,
-  Has,
-  Push,
-  Min,
-  Take,
-  Commit,
-  Abort,
-  RollBack,
-  Malformed,
-}
+use Rattle.steps.specs.declared.reading.Step.the-variants.{WithNumber, WithCue, Malformed}
+use Rattle.step_words.specs.Word.{numberWord, cueWord}
 
 -- `e,t,m,p`; 44 is the comma
 unfoldable pub callText : ℕ → CueNumbers → List ℕ
@@ -26,16 +14,8 @@ callText e c = fieldText e 44 ++ (fieldText (c .time) 44 ++ (fieldText (c .«mod
 
 -- `word,e` and `word,e,t,m,p`; of the many malformed lines, the empty one
 abbrev pub stepText : Step → List ℕ
-stepText (Begin e) = bytes "begin," ++ digitsOf e
-stepText (Add e c) = bytes "add," ++ callText e c
-stepText (Remove e c) = bytes "remove," ++ callText e c
-stepText (Has e c) = bytes "has," ++ callText e c
-stepText (Push e c) = bytes "push," ++ callText e c
-stepText (Min e) = bytes "min," ++ digitsOf e
-stepText (Take e) = bytes "take," ++ digitsOf e
-stepText (Commit e) = bytes "commit," ++ digitsOf e
-stepText (Abort e) = bytes "undo," ++ digitsOf e
-stepText (RollBack e) = bytes "back," ++ digitsOf e
+stepText (WithNumber w e) = numberWord w ++ 44 ∷ digitsOf e
+stepText (WithCue w e c) = cueWord w ++ 44 ∷ callText e c
 stepText Malformed = []
 
 -- numbers of at most nine digits
@@ -49,14 +29,6 @@ pub record NineDigitCall (e : ℕ) (c : CueNumbers) : Type 0 where
   pub pin : NineDigits (c .pin)
 
 abbrev pub NineDigitStep : Step → Type 0
-NineDigitStep (Begin e) = NineDigits e
-NineDigitStep (Add e c) = NineDigitCall e c
-NineDigitStep (Remove e c) = NineDigitCall e c
-NineDigitStep (Has e c) = NineDigitCall e c
-NineDigitStep (Push e c) = NineDigitCall e c
-NineDigitStep (Min e) = NineDigits e
-NineDigitStep (Take e) = NineDigits e
-NineDigitStep (Commit e) = NineDigits e
-NineDigitStep (Abort e) = NineDigits e
-NineDigitStep (RollBack e) = NineDigits e
+NineDigitStep (WithNumber w e) = NineDigits e
+NineDigitStep (WithCue w e c) = NineDigitCall e c
 NineDigitStep Malformed = Unit {0}

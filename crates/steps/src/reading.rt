@@ -5,7 +5,7 @@ ghost use Rattle.numbers.specs.Field.{field};
 ghost use Rattle.cue_lines.specs.CueLine.{others, fieldsOf};
 ghost use Rattle.numbers.specs.Number.{numberOf};
 ghost use Rattle.steps.specs.Field.{fieldAt, FieldWithin};
-ghost use Rattle.steps.specs.Step.{numbered, cueStep, cued, stepOf};
+ghost use Rattle.steps.specs.Step.{numbered, cued, stepOf};
 use lines::find_byte;
 use numbers::Number;
 use numbers::read_number;
@@ -23,20 +23,11 @@ pub struct CueNumbers {
     pub pin: u64,
 }
 
-// The first number is the transaction's, which the papers call the edit's, whatever its range.
+// A step is its word and its numbers. The first number is the transaction's, which the papers call the edit's, whatever
+// its range.
 pub enum Step {
-    Begin(u64),
-    Add(u64, CueNumbers),
-    Remove(u64, CueNumbers),
-    Has(u64, CueNumbers),
-    Push(u64, CueNumbers),
-    Min(u64),
-    Take(u64),
-    Commit(u64),
-    // The papers' `undo`: the edit unwinds from now on.
-    Abort(u64),
-    // The papers' `back`: one rollback step.
-    RollBack(u64),
+    WithNumber(NumberWord, u64),
+    WithCue(CueWord, u64, CueNumbers),
     // Refusal 1: a malformed line or an unknown word.
     Malformed,
 }
@@ -68,26 +59,7 @@ fn number_step(word: NumberWord, number: Number) -> Step
     let Number::Value(e) = number else {
         return Step::Malformed;
     };
-    match word {
-        NumberWord::Begin => Step::Begin(e),
-        NumberWord::Min => Step::Min(e),
-        NumberWord::Take => Step::Take(e),
-        NumberWord::Commit => Step::Commit(e),
-        NumberWord::Undo => Step::Abort(e),
-        NumberWord::Back => Step::RollBack(e),
-    }
-}
-
-// The step of that word with the numbers behind it.
-fn cue_step(word: CueWord, e: u64, cue: CueNumbers) -> Step
-    ensures { λ r. ⌜ r ≡ cueStep word e cue ⌝ }
-{
-    match word {
-        CueWord::Add => Step::Add(e, cue),
-        CueWord::Remove => Step::Remove(e, cue),
-        CueWord::Has => Step::Has(e, cue),
-        CueWord::Push => Step::Push(e, cue),
-    }
+    Step::WithNumber(word, e)
 }
 
 // The step of that word with the fields `e,t,m,p`, which start at a place of the line.
@@ -107,7 +79,7 @@ fn read_cue_step(word: CueWord, line: &[u8], at: usize) -> Step
     let Number::Value(pin) = read_number(&line[pin_at..]) else {
         return Step::Malformed;
     };
-    cue_step(word, e, CueNumbers { time, module, pin })
+    Step::WithCue(word, e, CueNumbers { time, module, pin })
 }
 
 // The step of a line, without its LF. Any bytes at all will do: what has not one of the ten forms is `Malformed`.

@@ -6,15 +6,16 @@ use mathlib.Core.List.{List, _∷_}
 use mathlib.Core.Option.{Option, none, some}
 use native.Mathlib.Omega.{arith}
 use Rattle.refusals.specs.declared.Refusal.{Refusal}
-use Rattle.cues.specs.Cue.{inRange, keyOf, CueKey}
+use Rattle.cues.specs.Cue.{inRange, keyOf}
 use Rattle.cues.proofs.Laws.{bounds}
+use Rattle.step_words.specs.declared.CueWord.{CueWord}
 use Rattle.steps.specs.declared.reading.Step.{Step}
+use Rattle.steps.specs.declared.reading.Step.the-variants.{WithCue}
 use Rattle.steps.specs.declared.reading.CueNumbers.{CueNumbers}
 use Rattle.boosting.specs.Object.{Call}
 use Rattle.boosting.specs.Store.{Store}
-use Rattle.boosting.specs.Rows.{call, onCueOf, request, requestOf, firstMet, refusalOf}
+use Rattle.boosting.specs.Rows.{call, request, cueCall, requestOf, firstMet, refusalOf}
 use Rattle.boosting.specs.Step.{stepOn}
-use Rattle.boosting.specs.Sound.{CallKey}
 use Rattle.boosting.proofs.Accepted.{accepted-call, step-refused}
 use Rattle.boosting.proofs.Sound.{request-key}
 use Rattle.store.specs.Stepped.{Asks}
@@ -57,19 +58,19 @@ key-in-range t m p h k e = let b = bounds t m p h in omega (arith, e)
 pub asks : (s : Step) → Asks (requestOf s) s
 asks s = record { alike = λ d. refl; key = request-key s }
 
--- a call on the cue with key k, where k is the key of the numbers if they are in range
-module _ (e : ℕ) (n : CueNumbers) (k : ℕ) (c : ℕ → Call) (keyed : (j : ℕ) → CueKey j → CallKey (c j))
+-- a word's call on the cue with key k, where k is the key of the numbers if they are in range
+module _ (w : CueWord) (e : ℕ) (n : CueNumbers) (k : ℕ)
     (h : inRange (n .time) (n .«module») (n .pin) ≡ true
     → k ≡ keyOf (record { time = n .time; «module» = n .«module»; pin = n .pin })) where
   abbrev ranged : Bool
   ranged = inRange (n .time) (n .«module») (n .pin)
 
-  pub asks-call : (s : Step) → requestOf s ≡ request e (onCueOf n c) → Asks (request e (call ranged (c k))) s
-  asks-call s q = go ranged refl
-    where
-      go : (b : Bool) → ranged ≡ b → Asks (request e (call ranged (c k))) s
-      go true p = rw (h p, ← q) (asks s)
-      go false p = record {
-        alike = λ d. rw (q, p) (out-of-range d e (c k) (c _));
-        key = λ t. absurd (let y : _≡_ {A = ℕ} 0 1 = cc in omega arith);
-      }
+  in-either : (b : Bool) → ranged ≡ b → Asks (request e (call ranged (cueCall w k))) (WithCue w e n)
+  in-either true p = rw (h p) (asks (WithCue w e n))
+  in-either false p = record {
+    alike = λ d. rw p (out-of-range d e (cueCall w k) (cueCall w _));
+    key = λ t. absurd (let y : _≡_ {A = ℕ} 0 1 = cc in omega arith);
+  }
+
+  pub asks-call : (s : Step) (c : Call) → s ≡ WithCue w e n → c ≡ cueCall w k → Asks (request e (call ranged c)) s
+  asks-call s c q r = rw (q, r) (in-either ranged refl)

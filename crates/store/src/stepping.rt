@@ -3,10 +3,10 @@
 ghost use mathlib.Core.Path.{_≡_};
 ghost use mathlib.Core.Bool.{true};
 ghost use Rattle.cues.specs.Cue.{inRange, keyOf};
-ghost use Rattle.boosting.specs.Rows.{requestOf};
+ghost use Rattle.boosting.specs.Rows.{numberAction, cueCall, requestOf};
 ghost use Rattle.boosting.specs.Step.{stepOn, stepLine};
 ghost use Rattle.store_words.specs.Words.{storeOf, StoreFits};
-ghost use Rattle.store_words.specs.Requests.{modelRequest};
+ghost use Rattle.store_words.specs.Requests.{modelCall, modelAction, modelRequest};
 ghost use Rattle.store.specs.Stepped.{Asks, Stepped};
 use admission::Admission;
 use admission::refusal_of;
@@ -16,6 +16,8 @@ use cues::cue_key;
 use cues::in_range;
 use performing::perform;
 use refusals::Refusal;
+use step_words::CueWord;
+use step_words::NumberWord;
 use steps::CueNumbers;
 use steps::Step;
 use steps::read_step;
@@ -42,21 +44,39 @@ fn on_cue(cue: CueNumbers, call: Call) -> Action
     Action::OnObject(in_range(cue.time, cue.module, cue.pin), call)
 }
 
+// What a word asks for that has only the transaction's number behind it.
+fn number_action(word: NumberWord) -> Action
+    ensures { λ r. ⌜ modelAction r ≡ numberAction word ⌝ }
+{
+    match word {
+        NumberWord::Begin => Action::Begin,
+        NumberWord::Min => Action::OnObject(true, Call::Min),
+        NumberWord::Take => Action::OnObject(true, Call::Take),
+        NumberWord::Commit => Action::Commit,
+        NumberWord::Undo => Action::Abort,
+        NumberWord::Back => Action::RollBack,
+    }
+}
+
+// The call of a word on the cue with this key.
+fn cue_call(word: CueWord, key: u64) -> Call
+    ensures { λ r. ⌜ modelCall r ≡ cueCall word key ⌝ }
+{
+    match word {
+        CueWord::Add => Call::Add(key),
+        CueWord::Remove => Call::Remove(key),
+        CueWord::Has => Call::Has(key),
+        CueWord::Push => Call::Push(key),
+    }
+}
+
 // What a step asks of the store.
 fn request_of(step: Step) -> Request
     ensures { λ r. ⌜ Asks (modelRequest r) step ⌝ }
 {
     match step {
-        Step::Begin(e) => Request::On(e, Action::Begin),
-        Step::Add(e, cue) => Request::On(e, on_cue(cue, Call::Add(key_of(cue)))),
-        Step::Remove(e, cue) => Request::On(e, on_cue(cue, Call::Remove(key_of(cue)))),
-        Step::Has(e, cue) => Request::On(e, on_cue(cue, Call::Has(key_of(cue)))),
-        Step::Push(e, cue) => Request::On(e, on_cue(cue, Call::Push(key_of(cue)))),
-        Step::Min(e) => Request::On(e, Action::OnObject(true, Call::Min)),
-        Step::Take(e) => Request::On(e, Action::OnObject(true, Call::Take)),
-        Step::Commit(e) => Request::On(e, Action::Commit),
-        Step::Abort(e) => Request::On(e, Action::Abort),
-        Step::RollBack(e) => Request::On(e, Action::RollBack),
+        Step::WithNumber(word, e) => Request::On(e, number_action(word)),
+        Step::WithCue(word, e, cue) => Request::On(e, on_cue(cue, cue_call(word, key_of(cue)))),
         Step::Malformed => Request::Malformed,
     }
 }

@@ -1,5 +1,5 @@
 -- `steps::reading::read_cue_step` meets its contract: each field in turn ends it or leads to the next. Assumes nothing.
-use mathlib.Core.Path.{sym, ap, _∙_}
+use mathlib.Core.Path.{refl, sym, ap, _∙_}
 use Rattle.numbers.specs.Number.{numberOf}
 use Rattle.steps.proofs.Steps.{rest-is, bad-time, bad-module, bad-pin, three-read}
 use Rattle.steps.proofs.Steps.{field-within, bad-transaction, bad-cue, call-read}
@@ -107,12 +107,9 @@ returns-4 c =
     let d = ap numberOf (sym (rest-is s _)) ∙ (sym (n .read-number .ensures .0) ∙ c .enum-told4 .given .1) in
     bad-cue (a .word) s (a .at) _ _ q (bad-pin s _ _ _ t _ _ m d)
 
-cue-step-requires : tie.Need-cue-step-requires
-cue-step-requires c κs = search needs
-
 returns-5 : tie.Need-returns-5
 returns-5 c =
-    let i = c .before .before in
+    let i = c .before in
     let n = i .before .before in
     let g = n .before .before .before in
     let v = g .before .before in
@@ -126,7 +123,7 @@ returns-5 c =
     let t = sym (x .read-field2 .ensures .0) ∙ u .time .given .1 in
     let m = sym (v .read-field3 .ensures .0) ∙ g .«module» .given .1 in
     let d = ap numberOf (sym (rest-is s _)) ∙ (sym (n .read-number .ensures .0) ∙ i .pin .given .1) in
-    call-read (a .word) s (a .at) _ _ q _ _ _ _ (three-read s _ _ _ t _ _ m _ d) (c .cue-step .ensures)
+    call-read (a .word) s (a .at) _ _ q _ _ _ _ (three-read s _ _ _ t _ _ m _ d) refl
 
 pub read-cue-step-spec : {M : Type 1} → statement M
 read-cue-step-spec =
@@ -151,5 +148,4 @@ read-cue-step-spec =
     enum-known-pin
     enum-told-4
     returns-4
-    cue-step-requires
     returns-5)
