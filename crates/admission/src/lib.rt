@@ -5,6 +5,7 @@
 // stepping establish of the words.
 use conflicts::Blocker;
 use conflicts::find_blocker;
+use counted_tables::has_key;
 use refusals::Refusal;
 use slots::queue_full;
 use slots::script_full;
@@ -51,9 +52,7 @@ fn in_script(script: &[u64; 257], key: u64) -> bool
     requires { ⌜ ScriptFits (now script) × Ordered 1 (scriptIn (now script)) ⌝ }
     ensures { λ r. ⌜ r ≡ memberOf key (scriptIn (now (script .entry))) ⌝ }
 {
-    let n = script[SCRIPT_COUNT] as usize;
-    let at = ranks::rank(script, n, key);
-    ranks::stands_at(script, n, at, key)
+    has_key(script, SCRIPT_COUNT, key)
 }
 
 // The entry that the call would note, which would be the newest.

@@ -42,19 +42,12 @@ use Rattle.scripts.specs.declared.reading.Outcome.{Outcome}
 use Rattle.scripts.specs.declared.reading.Outcome.the-variants.{Accepted, Refused as RefusedText}
 use Rattle.scripts.specs.Script.{scriptOf}
 use Rattle.steps.specs.declared.reading.Step.{Step}
-use Rattle.steps.specs.declared.reading.Step.the-variants.{
-  Begin,
-  Add,
-  Remove,
-  Has,
-  Push,
-  Min,
-  Take,
-  Commit,
-  Abort,
-  RollBack,
-  Malformed,
-}
+use Rattle.steps.specs.declared.reading.Step.the-variants.{WithNumber, WithCue, Malformed}
+use Rattle.step_words.specs.declared.NumberWord.{NumberWord}
+use Rattle.step_words.specs.declared.NumberWord.the-variants.{Begin, Min, Take, Commit, Undo, Back}
+use Rattle.step_words.specs.declared.CueWord.{CueWord}
+use Rattle.step_words.specs.declared.CueWord.the-variants.{Add, Remove, Has, Push}
+use Rattle.step_words.specs.Word.{numberWord, cueWord}
 use Rattle.answers.specs.declared.Answer.the-variants.{Left}
 use Rattle.steps.specs.Step.{stepOf}
 use Rattle.steps.specs.StepText.{stepText}
@@ -182,17 +175,25 @@ line-at-most d l = stepped-at-most d (requestOf (stepOf l))
 abbrev IsStep : Step → Type 0
 IsStep s = (s ≡ Malformed → ⊥) × (4 ≤ length (stepText s))
 
+number-word-long : (w : NumberWord) → 3 ≤ length (numberWord w)
+number-word-long Begin = omega arith
+number-word-long Min = omega arith
+number-word-long Take = omega arith
+number-word-long Commit = omega arith
+number-word-long Undo = omega arith
+number-word-long Back = omega arith
+
+cue-word-long : (w : CueWord) → 3 ≤ length (cueWord w)
+cue-word-long Add = omega arith
+cue-word-long Remove = omega arith
+cue-word-long Has = omega arith
+cue-word-long Push = omega arith
+
 step-or-not : (s : Step) → (s ≡ Malformed) ⊎ IsStep s
-step-or-not (Begin e) = inr ((λ q. let z : _≡_ {A = ℕ} 0 1 = cc in omega arith), omega arith)
-step-or-not (Add e c) = inr ((λ q. let z : _≡_ {A = ℕ} 0 1 = cc in omega arith), omega arith)
-step-or-not (Remove e c) = inr ((λ q. let z : _≡_ {A = ℕ} 0 1 = cc in omega arith), omega arith)
-step-or-not (Has e c) = inr ((λ q. let z : _≡_ {A = ℕ} 0 1 = cc in omega arith), omega arith)
-step-or-not (Push e c) = inr ((λ q. let z : _≡_ {A = ℕ} 0 1 = cc in omega arith), omega arith)
-step-or-not (Min e) = inr ((λ q. let z : _≡_ {A = ℕ} 0 1 = cc in omega arith), omega arith)
-step-or-not (Take e) = inr ((λ q. let z : _≡_ {A = ℕ} 0 1 = cc in omega arith), omega arith)
-step-or-not (Commit e) = inr ((λ q. let z : _≡_ {A = ℕ} 0 1 = cc in omega arith), omega arith)
-step-or-not (Abort e) = inr ((λ q. let z : _≡_ {A = ℕ} 0 1 = cc in omega arith), omega arith)
-step-or-not (RollBack e) = inr ((λ q. let z : _≡_ {A = ℕ} 0 1 = cc in omega arith), omega arith)
+step-or-not (WithNumber w e) =
+    inr ((λ q. let z : _≡_ {A = ℕ} 0 1 = cc in omega arith), simp length-append (omega (arith, number-word-long w)))
+step-or-not (WithCue w e c) =
+    inr ((λ q. let z : _≡_ {A = ℕ} 0 1 = cc in omega arith), simp length-append (omega (arith, cue-word-long w)))
 step-or-not Malformed = inl refl
 
 malformed-answer : (d : Store) (l : List ℕ) → stepOf l ≡ Malformed → length (answerText (stepLine d l .answer)) ≡ 10

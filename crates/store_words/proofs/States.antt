@@ -9,7 +9,7 @@ use Rattle.counted_tables.specs.Tables.{keysIn, TableFits, Holds}
 use Rattle.store_words.specs.States.{StateFits, StateHolds}
 
 -- the script and the queue as tables
-script-table : (s : List ℕ) → ScriptFits s → TableFits 256 s
+pub script-table : (s : List ℕ) → ScriptFits s → TableFits 256 s
 script-table s f = record { long = f .long; count-le = f .count-le }
 
 pub queue-table : (q : List ℕ) → QueueFits q → TableFits 64 q
