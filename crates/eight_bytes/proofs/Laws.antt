@@ -2,16 +2,16 @@
 -- bytes. Assumes nothing.
 use Prim.Native.Nat.{ℕ, zero, suc, _+_, _*_, _/_, _%_, _^_, _≤_, _<_}
 use mathlib.Core.Path.{_≡_, refl, sym, ap, ap₂, _∙_}
-use mathlib.Core.Bool.{Bool, true, false, not, cond}
+use mathlib.Core.Bool.{Bool, true, false, not}
 use mathlib.Core.List.{List, [], _∷_, _++_}
-use native.Mathlib.Nat.{pow-suc, one-le-pow, mod-one, mod-lt, mul-comm, mul-assoc, zero-lt-suc, zero-mod}
+use native.Mathlib.Nat.{pow-suc, one-le-pow, mod-one, mul-comm, mul-assoc, zero-lt-suc, zero-mod}
 use native.Mathlib.Omega.{arith}
 use lib.Arith.{mod-mul}
 use lib.Dec.{leb}
 use lib.ListN.{length, getD, take, drop, length-drop}
 use lib.Seq.{drop-cons, drop-drop, take-add, length-take-le}
 use borrow.Author.Tests.{leb-true, leb-false, le-leb, not-true, not-false}
-use Rattle.eight_bytes.specs.Eight.{numberFrom, AllBytes, FourFit, eightAt, EightFit}
+use Rattle.eight_bytes.specs.Eight.{numberFrom, AllBytes, FourFit, EightFit}
 
 -- ---- lists of bytes
 pub bytes-append : (l t : List ℕ) → AllBytes l → AllBytes t → AllBytes (l ++ t)
