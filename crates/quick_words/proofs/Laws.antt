@@ -9,7 +9,7 @@ use native.Mathlib.Omega.{arith}
 use lib.Bits.{bitAnd, and-mask}
 use lib.Pow.{pow-add}
 use lib.Dec.{ltb, leb}
-use lib.ListN.{length, getD, take, drop, length-append, length-drop}
+use lib.ListN.{length, getD, take, drop, length-drop}
 use lib.ListN.{List·getD-map, List·getD-append, List·getD-eq-default}
 use lib.Seq.{getD-drop, getD-append-add, take-take, length-take-le}
 use borrow.Author.Tests.{ltb-true, leb-true}
@@ -114,10 +114,6 @@ module _ (f : ℕ → ℕ) where
 
   code-in : (k : ℕ) → k < 16 → getD (codesFrom f 0 16) k 0 ≡ f k
   code-in k h = let e : 0 + k ≡ k = omega arith in code-at 0 16 k h ∙ ap f e
-
-pub table-length : length wordTable ≡ 48
-unfolding wordTable
-table-length = simp (length-append, length-codes) refl
 
 pub table-number : (k : ℕ) → k < 16 → getD wordTable k 0 ≡ codeNumber k
 unfolding wordTable
