@@ -1,0 +1,71 @@
+-- `quick_words::quick_word` meets its contract. Assumes nothing.
+use native.Mathlib.Omega.{arith}
+use borrow.Author.Needs.{needs}
+use Rattle.eight_bytes.proofs.Laws.{room}
+use Rattle.quick_words.proofs.Laws.{word-found}
+use Rattle.quick_words.proofs.quick_word.Statement.{statement}
+use Rattle.quick_words.proofs.quick_word.Tie as tie
+
+fits-requires : tie.Need-fits-requires
+fits-requires c κs = search needs
+
+returns : tie.Need-returns
+returns c = search needs
+
+eight-bytes-requires : tie.Need-eight-bytes-requires
+eight-bytes-requires c κs = search needs
+
+add-slot : tie.Need-add-slot
+add-slot c = search needs
+
+mul-code : tie.Need-mul-code
+mul-code c = search needs
+
+shr-code : tie.Need-shr-code
+shr-code c = search needs
+
+add-if2 : tie.Need-add-if2
+add-if2 c = search needs
+
+mul-if2 : tie.Need-mul-if2
+mul-if2 c = search needs
+
+element-copy-out-if2 : tie.Need-element-copy-out-if2
+element-copy-out-if2 c = search needs
+
+mul-if2-2 : tie.Need-mul-if2-2
+mul-if2-2 c = search needs
+
+element-copy-out-if2-2 : tie.Need-element-copy-out-if2-2
+element-copy-out-if2-2 c = search needs
+
+returns-2 : tie.Need-returns-2
+returns-2 c = search needs
+
+returns-3 : tie.Need-returns-3
+returns-3 c =
+    let x = c .before .before .before in
+    let f = x .before .before in
+    let s = f .before .before in
+    let t = s .args .text .now in
+    let h = room t (s .args .at) _ (f .fits2 .ensures) (x .before .if1 .left) in
+    word-found (s .args .words .now) (s .pre) _ (omega arith) t (s .args .at) _ (x .eight-bytes .ensures) h
+    (c .if2 .left)
+
+pub quick-word-spec : {M : Type 1} → statement M
+quick-word-spec =
+    tie.close
+    (tie.spec
+    fits-requires
+    returns
+    eight-bytes-requires
+    add-slot
+    mul-code
+    shr-code
+    add-if2
+    mul-if2
+    element-copy-out-if2
+    mul-if2-2
+    element-copy-out-if2-2
+    returns-2
+    returns-3)

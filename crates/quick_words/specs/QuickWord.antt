@@ -1,0 +1,66 @@
+-- The words of step lines by their codes, the table of what is known of each code, and what a look finds. A look may
+-- always say that it is unsure. Assumes nothing.
+use Prim.Native.Nat.{ℕ, zero, suc, _-_, _^_, _<_}
+use mathlib.Core.Path.{_≡_}
+use mathlib.Core.List.{List, [], _∷_, _++_}
+use lib.ListN.{length, getD, take, drop}
+use Rattle.lines.specs.Ascii.{bytes}
+use Rattle.step_words.specs.declared.CueWord.{CueWord}
+use Rattle.step_words.specs.declared.CueWord.the-variants.{Add, Remove, Has, Push}
+use Rattle.step_words.specs.declared.NumberWord.{NumberWord}
+use Rattle.step_words.specs.declared.NumberWord.the-variants.{Min, Take, Begin, Commit, Undo, Back}
+use Rattle.eight_bytes.specs.Eight.{numberFrom}
+use Rattle.quick_words.specs.declared.QuickWord.{QuickWord}
+use Rattle.quick_words.specs.declared.QuickWord.the-variants.{Found, Unsure}
+
+-- the bytes t stand at a place of a text
+abbrev pub Stands : List ℕ → ℕ → List ℕ → Type 0
+Stands s at t = take (length t) (drop at s) ≡ t
+
+-- ---- the words by their codes
+-- the texts of the codes below 9, each with its comma
+abbrev pub codeTexts : List (List ℕ)
+codeTexts =
+    bytes "add,"
+    ∷ bytes "remove,"
+    ∷ bytes "has,"
+    ∷ bytes "push,"
+    ∷ bytes "min,"
+    ∷ bytes "take,"
+    ∷ bytes "begin,"
+    ∷ bytes "commit,"
+    ∷ bytes "undo,"
+    ∷ []
+
+unfoldable pub codeText : ℕ → List ℕ
+codeText c = getD codeTexts c (bytes "back,")
+
+unfoldable pub cueCode : ℕ → CueWord
+cueCode c = getD (Add ∷ Remove ∷ Has ∷ []) c Push
+
+unfoldable pub numberCode : ℕ → NumberWord
+numberCode c = getD (Min ∷ Take ∷ Begin ∷ Commit ∷ Undo ∷ []) (c - 4) Back
+
+-- ---- the table
+-- what f says of n codes from c up
+unfoldable pub codesFrom : (ℕ → ℕ) → ℕ → ℕ → List ℕ
+codesFrom f c zero = []
+codesFrom f c (suc n) = f c ∷ codesFrom f (suc c) n
+
+-- of a code: the number of its text's bytes, the mask of as many bytes, and how many
+abbrev pub codeNumber : ℕ → ℕ
+codeNumber c = numberFrom (codeText c)
+
+abbrev pub codeMask : ℕ → ℕ
+codeMask c = 256 ^ length (codeText c) - 1
+
+abbrev pub codeLength : ℕ → ℕ
+codeLength c = length (codeText c)
+
+unfoldable pub wordTable : List ℕ
+wordTable = codesFrom codeNumber 0 16 ++ (codesFrom codeMask 0 16 ++ codesFrom codeLength 0 16)
+
+-- ---- what a look finds
+abbrev pub QuickWordFits : List ℕ → ℕ → QuickWord → Type 0
+QuickWordFits s at (Found code) = Stands s at (codeText code) × (code < 16)
+QuickWordFits s at Unsure = Unit {0}
