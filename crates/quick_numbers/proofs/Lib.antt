@@ -1,0 +1,3 @@
+-- Laws of short numbers; the folders beside them hold the proofs of the functions. Assumes nothing.
+pub mod Laws
+pub mod Standing
