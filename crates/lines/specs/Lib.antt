@@ -2,4 +2,5 @@
 pub mod Ascii
 pub mod Line
 pub mod Lines
+pub mod Standing
 pub mod Theorems

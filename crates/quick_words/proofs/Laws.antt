@@ -14,13 +14,14 @@ use lib.ListN.{List·getD-map, List·getD-append, List·getD-eq-default}
 use lib.Seq.{getD-drop, getD-append-add, take-take, length-take-le}
 use borrow.Author.Tests.{ltb-true, leb-true}
 use Rattle.lines.specs.Ascii.{bytes}
+use Rattle.lines.specs.Standing.{Stands}
 use Rattle.step_words.specs.declared.CueWord.the-variants.{Add, Remove, Has, Push}
 use Rattle.step_words.specs.declared.NumberWord.{NumberWord}
 use Rattle.step_words.specs.declared.NumberWord.the-variants.{Min, Take, Begin, Commit, Undo, Back}
 use Rattle.step_words.specs.Word.{numberWord, cueWord}
 use Rattle.eight_bytes.specs.Eight.{numberFrom, AllBytes, EightFit}
 use Rattle.eight_bytes.proofs.Laws.{eight-value, low-bytes}
-use Rattle.quick_words.specs.QuickWord.{Stands, codeTexts, codeText, cueCode, numberCode}
+use Rattle.quick_words.specs.QuickWord.{codeTexts, codeText, cueCode, numberCode}
 use Rattle.quick_words.specs.QuickWord.{codesFrom, codeNumber, codeMask, codeLength, wordTable}
 
 -- ---- the text of each code's word

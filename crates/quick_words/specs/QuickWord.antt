@@ -3,8 +3,9 @@
 use Prim.Native.Nat.{ℕ, zero, suc, _-_, _^_, _<_}
 use mathlib.Core.Path.{_≡_}
 use mathlib.Core.List.{List, [], _∷_, _++_}
-use lib.ListN.{length, getD, take, drop}
+use lib.ListN.{length, getD}
 use Rattle.lines.specs.Ascii.{bytes}
+use Rattle.lines.specs.Standing.{Stands}
 use Rattle.step_words.specs.declared.CueWord.{CueWord}
 use Rattle.step_words.specs.declared.CueWord.the-variants.{Add, Remove, Has, Push}
 use Rattle.step_words.specs.declared.NumberWord.{NumberWord}
@@ -12,10 +13,6 @@ use Rattle.step_words.specs.declared.NumberWord.the-variants.{Min, Take, Begin,
 use Rattle.eight_bytes.specs.Eight.{numberFrom}
 use Rattle.quick_words.specs.declared.QuickWord.{QuickWord}
 use Rattle.quick_words.specs.declared.QuickWord.the-variants.{Found, Unsure}
-
--- the bytes t stand at a place of a text
-abbrev pub Stands : List ℕ → ℕ → List ℕ → Type 0
-Stands s at t = take (length t) (drop at s) ≡ t
 
 -- ---- the words by their codes
 -- the texts of the codes below 9, each with its comma
