@@ -23,7 +23,7 @@ unfolding numberCode
 returns-4 c = sym (ap numberCode (c .match .keys4))
 
 returns-5 : tie.Need-returns-5
-returns-5 c = number-low (c .before .before .args .code) (c .if1 .taken)
+returns-5 c = number-low (c .before .before .args .code) (omega arith)
 
 returns-6 : tie.Need-returns-6
 returns-6 c = number-other (c .before .before .args .code) (omega arith)
