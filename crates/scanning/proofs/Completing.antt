@@ -7,38 +7,35 @@ use mathlib.Core.List.{List, [], _∷_, _++_, append-assoc, append-nil}
 use native.Mathlib.Omega.{arith}
 use lib.ListN.{length, getD, take, drop, length-drop, take-append-drop}
 use lib.Seq.{drop-cons, drop-drop, take-add, length-take-le}
-use Rattle.lines.specs.Ascii.{bytes}
 use Rattle.lines.specs.Lines.{upTo}
+use Rattle.lines.specs.Standing.{Stands}
 use Rattle.lines.proofs.Laws.{up-append, none-append, none-one}
 use Rattle.digits.specs.Digits.{digitsOf}
 use Rattle.digits.proofs.Laws.{none-digits}
 use Rattle.records.specs.Record.{fieldText}
 use Rattle.steps.specs.declared.reading.CueNumbers.{CueNumbers}
 use Rattle.steps.specs.declared.reading.Step.{Step}
-use Rattle.steps.specs.declared.reading.Step.the-variants.{
-  Begin,
-  Add,
-  Remove,
-  Has,
-  Push,
-  Min,
-  Take,
-  Commit,
-  Abort,
-  RollBack,
-  Malformed,
-}
+use Rattle.steps.specs.declared.reading.Step.the-variants.{WithNumber, WithCue, Malformed}
+use Rattle.step_words.specs.declared.NumberWord.{NumberWord}
+use Rattle.step_words.specs.declared.NumberWord.the-variants.{Begin, Min, Take, Commit, Undo, Back}
+use Rattle.step_words.specs.declared.CueWord.{CueWord}
+use Rattle.step_words.specs.declared.CueWord.the-variants.{Add, Remove, Has, Push}
+use Rattle.step_words.specs.Word.{numberWord, cueWord}
 use Rattle.steps.specs.Step.{stepOf}
-use Rattle.steps.specs.StepText.{callText, stepText}
+use Rattle.steps.specs.StepText.{callText, stepText, NineDigits, NineDigitCall}
 use Rattle.steps.proofs.Theorems.{step-write-then-read}
+use Rattle.quick_words.specs.declared.QuickWord.{QuickWord}
+use Rattle.quick_words.specs.declared.QuickWord.the-variants.{Found as FoundWord}
+use Rattle.quick_words.specs.QuickWord.{codeText, cueCode, numberCode, QuickWordFits}
+use Rattle.quick_words.proofs.Laws.{cue-text, number-text}
+use Rattle.quick_numbers.specs.declared.Short.{Short}
+use Rattle.quick_numbers.specs.Short.{ShortFits}
+use Rattle.quick_numbers.proofs.Laws.{digits-stand, field-stands}
 use Rattle.scanning.specs.declared.Scanned.{Scanned}
 use Rattle.scanning.specs.declared.quick.Quick.{Quick}
 use Rattle.scanning.specs.declared.quick.Quick.the-variants.{Found, Unsure}
-use Rattle.scanning.specs.declared.quick.Short.{Short}
-use Rattle.scanning.specs.declared.quick.Word.{Word}
 use Rattle.scanning.specs.Scan.{Scans}
-use Rattle.scanning.specs.Quick.{Stands, wordText, ShortFits, LineOf, Completes, RestFits, QuickFits}
-use Rattle.scanning.proofs.Numbers.{digits-stand, field-stands}
+use Rattle.scanning.specs.Quick.{LineOf, Completes, RestFits, QuickFits}
 
 -- ---- no byte of a step's line is an LF
 none-number : (e : ℕ) → upTo 10 (digitsOf e) ≡ length (digitsOf e)
@@ -54,18 +51,31 @@ none-call e c =
     (none-append 10 (fieldText (c .time) 44) _ (none-field (c .time))
     (none-append 10 (fieldText (c .«module») 44) _ (none-field (c .«module»)) (none-number (c .pin))))
 
+none-number-word : (w : NumberWord) → upTo 10 (numberWord w) ≡ length (numberWord w)
+unfolding upTo
+none-number-word Begin = refl
+none-number-word Min = refl
+none-number-word Take = refl
+none-number-word Commit = refl
+none-number-word Undo = refl
+none-number-word Back = refl
+
+none-cue-word : (w : CueWord) → upTo 10 (cueWord w) ≡ length (cueWord w)
+unfolding upTo
+none-cue-word Add = refl
+none-cue-word Remove = refl
+none-cue-word Has = refl
+none-cue-word Push = refl
+
+none-behind-comma : (l : List ℕ) → upTo 10 l ≡ length l → upTo 10 (44 ∷ l) ≡ length (44 ∷ l)
+none-behind-comma l e = none-append 10 (44 ∷ []) l (none-one 10 44 (λ q. omega arith)) e
+
 none-line : (x : Step) → upTo 10 (stepText x) ≡ length (stepText x)
 unfolding upTo
-none-line (Begin e) = none-append 10 (bytes "begin,") (digitsOf e) refl (none-number e)
-none-line (Add e c) = none-append 10 (bytes "add,") (callText e c) refl (none-call e c)
-none-line (Remove e c) = none-append 10 (bytes "remove,") (callText e c) refl (none-call e c)
-none-line (Has e c) = none-append 10 (bytes "has,") (callText e c) refl (none-call e c)
-none-line (Push e c) = none-append 10 (bytes "push,") (callText e c) refl (none-call e c)
-none-line (Min e) = none-append 10 (bytes "min,") (digitsOf e) refl (none-number e)
-none-line (Take e) = none-append 10 (bytes "take,") (digitsOf e) refl (none-number e)
-none-line (Commit e) = none-append 10 (bytes "commit,") (digitsOf e) refl (none-number e)
-none-line (Abort e) = none-append 10 (bytes "undo,") (digitsOf e) refl (none-number e)
-none-line (RollBack e) = none-append 10 (bytes "back,") (digitsOf e) refl (none-number e)
+none-line (WithNumber w e) =
+    none-append 10 (numberWord w) _ (none-number-word w) (none-behind-comma (digitsOf e) (none-number e))
+none-line (WithCue w e c) =
+    none-append 10 (cueWord w) _ (none-cue-word w) (none-behind-comma (callText e c) (none-call e c))
 none-line Malformed = refl
 
 -- ---- at the LF, at a place before, at the start
@@ -91,20 +101,18 @@ earlier before t s at q r e h c =
     }
 
 -- a number and a byte before, and a number alone
-pub field-earlier : (before s : List ℕ) (at most b : ℕ) (v : Short) (r : Scanned) → at + most < length s
-    → ShortFits s at most v → (v .digits ≡ 0 → ⊥) → getD s (at + v .digits) 0 ≡ b
-    → Completes (before ++ fieldText (v .value) b) s (at + v .digits + 1) r → Completes before s at r
-field-earlier before s at most b v r l f some e c =
-    let few : v .digits ≤ most = f .few in
-    let d = field-stands s at most v f some (omega arith) b (omega arith) e in
-    earlier before (fieldText (v .value) b) s at (at + v .digits + 1) r (omega (arith, d .1)) (d .0) c
+module _ (before s : List ℕ) (at most : ℕ) (v : Short) (f : ShortFits s at most v) (some : v .digits ≡ 0 → ⊥) where
+  pub field-earlier : (b : ℕ) (r : Scanned) → at + v .digits < length s → getD s (at + v .digits) 0 ≡ b
+      → Completes (before ++ fieldText (v .value) b) s (at + v .digits + 1) r → Completes before s at r
+  field-earlier b r l e c =
+      let d = field-stands s at most v f some b l e in
+      earlier before (fieldText (v .value) b) s at (at + v .digits + 1) r (omega (arith, d .1)) (d .0) c
 
-pub number-earlier : (before s : List ℕ) (at most : ℕ) (v : Short) (r : Scanned) → at + most < length s
-    → ShortFits s at most v → (v .digits ≡ 0 → ⊥)
-    → Completes (before ++ digitsOf (v .value)) s (at + v .digits) r → Completes before s at r
-number-earlier before s at most v r l f some c =
-    let d = digits-stand s at most v f some (omega arith) in
-    earlier before (digitsOf (v .value)) s at (at + v .digits) r (omega (arith, d .1)) (d .0) c
+  pub number-earlier : (r : Scanned) → Completes (before ++ digitsOf (v .value)) s (at + v .digits) r
+      → Completes before s at r
+  number-earlier r c =
+      let d = digits-stand s at most v f some in
+      earlier before (digitsOf (v .value)) s at (at + v .digits) r (omega (arith, d .1)) (d .0) c
 
 pub scans : (s : List ℕ) (at : ℕ) (r : Scanned) → Completes [] s at r → Scans s at r
 scans s at r c =
@@ -126,14 +134,24 @@ scans s at r c =
       within = omega arith;
     }
 
--- ---- the line of a cue's step, as it is read
+-- ---- the lines of steps, as they are read
+pub number-line : (code e : ℕ) (w : NumberWord) → 4 ≤ code → w ≡ numberCode code → NineDigits e
+    → LineOf (codeText code ++ digitsOf e) (WithNumber w e)
+number-line code e w h q n =
+    record { text = rw (number-text code h, q) (append-assoc (numberWord (numberCode code)) _ _); nine = n }
+
 regroup : (a b c d e : List ℕ) → (((a ++ b) ++ c) ++ d) ++ e ≡ a ++ (b ++ (c ++ (d ++ e)))
 regroup a b c d e = simp append-assoc
 
-pub call-line : (w : List ℕ) (e : ℕ) (c : CueNumbers) (x : Step) → LineOf (w ++ callText e c) x
-    → LineOf ((((w ++ fieldText e 44) ++ fieldText (c .time) 44) ++ fieldText (c .«module») 44) ++ digitsOf (c .pin)) x
+pub call-line : (code e : ℕ) (c : CueNumbers) (w : CueWord) → code < 4 → w ≡ cueCode code → NineDigitCall e c
+    → LineOf ((((codeText code ++ fieldText e 44) ++ fieldText (c .time) 44) ++ fieldText (c .«module») 44)
+    ++ digitsOf (c .pin))
+    (WithCue w e c)
 unfolding callText
-call-line w e c x h = record { text = regroup w _ _ _ _ ∙ h .text; nine = h .nine }
+call-line code e c w h q n = record {
+  text = regroup (codeText code) _ _ _ _ ∙ rw (cue-text code h, q) (append-assoc (cueWord (cueCode code)) _ _);
+  nine = n;
+}
 
 -- ---- what a look answers
 pub rest-earlier : (before t s : List ℕ) (at q : ℕ) (r : Quick) → q ≡ at + length t → Stands s at t
@@ -141,10 +159,24 @@ pub rest-earlier : (before t s : List ℕ) (at q : ℕ) (r : Quick) → q ≡ at
 rest-earlier before t s at q (Found r) e h c = earlier before t s at q r e h c
 rest-earlier before t s at q Unsure e h c = tt
 
-pub rest-scans : (w : Word) (s : List ℕ) (at q : ℕ) (r : Quick) → q ≡ at + length (wordText w)
-    → Stands s at (wordText w) → RestFits (wordText w) s q r → QuickFits s at r
-rest-scans w s at q (Found r) e h c = scans s at r (earlier [] (wordText w) s at q r e h c)
-rest-scans w s at q Unsure e h c = tt
+-- a field of one digit before
+pub rest-field : (before s : List ℕ) (at b : ℕ) (v : Short) (r : Quick) → ShortFits s at 1 v → (v .digits ≡ 0 → ⊥)
+    → at + 1 < length s → getD s (at + 1) 0 ≡ b → RestFits (before ++ fieldText (v .value) b) s (at + 2) r
+    → RestFits before s at r
+rest-field before s at b v r f some l e c =
+    let one : v .digits ≡ 1 = omega (arith, f .few) in
+    let d = field-stands s at 1 v f some b (rw one l) (rw one e) in
+    rest-earlier before (fieldText (v .value) b) s at (at + 2) r (omega (arith, d .1)) (d .0) c
+
+pub rest-scans : (t s : List ℕ) (at q : ℕ) (r : Quick) → q ≡ at + length t → Stands s at t → RestFits t s q r
+    → QuickFits s at r
+rest-scans t s at q (Found r) e h c = scans s at r (earlier [] t s at q r e h c)
+rest-scans t s at q Unsure e h c = tt
+
+-- what the looks found
+pub word-found : (s : List ℕ) (at code : ℕ) (r : QuickWord) → QuickWordFits s at r → r ≡ FoundWord code
+    → Stands s at (codeText code) × (code < 16)
+word-found s at code r f e = rw e at f
 
 pub found-scans : (s : List ℕ) (at : ℕ) (r : Quick) (x : Scanned) → QuickFits s at r → r ≡ Found x → Scans s at x
 found-scans s at r x f e = rw e at f

@@ -8,11 +8,7 @@ use Rattle.step_words.specs.declared.NumberWord.the-variants.{Begin, Min
 use Rattle.step_words.specs.declared.CueWord.the-variants.{Add, Remove, Has, Push}
 use Rattle.step_words.specs.declared.Word.{Word}
 use Rattle.step_words.specs.declared.Word.the-variants.{WithNumber, WithCue, Unknown}
-<<<<<<< HEAD
 use Rattle.step_words.specs.Word.{numberWord, cueWord, same, wordOf}
-=======
-use Rattle.step_words.specs.Word.{same, wordOf, numberWord, cueWord}
->>>>>>> wa
 use Rattle.step_words.proofs.Words.{same-true}
 
 abbrev pub IsWord : List ℕ → Word → Type 0

@@ -47,18 +47,3 @@ wordOf w =
     (cond (same w (bytes "undo")) (WithNumber Undo)
     (cond (same w (bytes "back")) (WithNumber Back)
     Unknown)))))))))
-
--- the text of each word
-abbrev pub numberWord : NumberWord → List ℕ
-numberWord Begin = bytes "begin"
-numberWord Min = bytes "min"
-numberWord Take = bytes "take"
-numberWord Commit = bytes "commit"
-numberWord Undo = bytes "undo"
-numberWord Back = bytes "back"
-
-abbrev pub cueWord : CueWord → List ℕ
-cueWord Add = bytes "add"
-cueWord Remove = bytes "remove"
-cueWord Has = bytes "has"
-cueWord Push = bytes "push"

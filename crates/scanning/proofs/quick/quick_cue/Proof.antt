@@ -5,16 +5,17 @@ use native.Mathlib.Omega.{arith}
 use mathlib.Core.List.{_++_}
 use Rattle.digits.specs.Digits.{digitsOf}
 use Rattle.records.specs.Record.{fieldText}
-use Rattle.scanning.specs.Quick.{wordText}
-use Rattle.scanning.proofs.Numbers.{nine-digits}
-use Rattle.scanning.proofs.Standing.{is-byte}
+use Rattle.steps.specs.StepText.{NineDigitCall}
+use Rattle.quick_words.specs.QuickWord.{codeText}
+use Rattle.quick_numbers.proofs.Laws.{nine-digits}
+use Rattle.scanning.proofs.Tests.{is-byte}
 use Rattle.scanning.proofs.Completing.{ended, field-earlier, number-earlier, call-line}
 use borrow.Author.Needs.{needs}
 use Rattle.scanning.proofs.quick.quick_cue.Statement.{statement}
 use Rattle.scanning.proofs.quick.quick_cue.Tie as tie
 
-short-number-requires : tie.Need-short-number-requires
-short-number-requires c κs = search needs
+time-at-requires : tie.Need-time-at-requires
+time-at-requires c κs = search needs
 
 add-time-end : tie.Need-add-time-end
 add-time-end c = search needs
@@ -25,11 +26,11 @@ shared-slice-read-if2 c = search needs
 returns : tie.Need-returns
 returns c = search needs
 
-add-two-digits : tie.Need-add-two-digits
-add-two-digits c = search needs
+add-address-at : tie.Need-add-address-at
+add-address-at c = search needs
 
-two-digits-requires : tie.Need-two-digits-requires
-two-digits-requires c κs = search needs
+address-at-requires : tie.Need-address-at-requires
+address-at-requires c κs = search needs
 
 add-module-end : tie.Need-add-module-end
 add-module-end c = search needs
@@ -43,11 +44,11 @@ shared-slice-read-if4 c = search needs
 returns-2 : tie.Need-returns-2
 returns-2 c = search needs
 
-add-two-digits-2 : tie.Need-add-two-digits-2
-add-two-digits-2 c = search needs
+add-address-at-2 : tie.Need-add-address-at-2
+add-address-at-2 c = search needs
 
-two-digits-requires-2 : tie.Need-two-digits-requires-2
-two-digits-requires-2 c κs = search needs
+address-at-requires-2 : tie.Need-address-at-requires-2
+address-at-requires-2 c κs = search needs
 
 add-end : tie.Need-add-end
 add-end c = search needs
@@ -61,20 +62,8 @@ shared-slice-read-if6 c = search needs
 returns-3 : tie.Need-returns-3
 returns-3 c = search needs
 
-cue-step-requires : tie.Need-cue-step-requires
-cue-step-requires c κs =
-    let n3 = c .before .before .before .before .before in
-    let n2 = n3 .before .before .before .before .before .before in
-    let n1 = n2 .before .before .before .before .before .before in
-    let a = n1 .before .before in
-    let s = a .args .text .now in
-    let t = nine-digits s _ 7 _ (n1 .short-number .ensures) (n2 .before .before .before .if1 .left) in
-    let m = nine-digits s _ 2 _ (n2 .two-digits .ensures) (n3 .before .before .before .if3 .left) in
-    let p = nine-digits s _ 2 _ (n3 .two-digits2 .ensures) (c .before .before .if5 .left) in (
-      a .pre .1,
-      a .pre .2,
-      record { transaction = omega arith; time = omega arith; «module» = omega arith; pin = omega arith },
-    )
+cue-word-requires : tie.Need-cue-word-requires
+cue-word-requires c κs = search needs
 
 returns-4 : tie.Need-returns-4
 returns-4 c =
@@ -84,47 +73,58 @@ returns-4 c =
     let n2 = l2 .before .before .before .before .before in
     let l1 = n2 .before in
     let n1 = l1 .before .before .before .before .before in
-    let a = n1 .before .before .args in
+    let g = n1 .before .before in
+    let a = g .args in
     let s = a .text .now in
-    let t = n1 .short-number .result in
-    let m = n2 .two-digits .result in
-    let p = n3 .two-digits2 .result in
+    let t = n1 .time-at .result in
+    let m = n2 .address-at .result in
+    let p = n3 .address-at2 .result in
+    let ft = n1 .time-at .ensures in
+    let fm = n2 .address-at .ensures in
+    let fp = n3 .address-at2 .ensures in
+    let some-t = l1 .before .before .if1 .left in
+    let some-m = l2 .before .before .if3 .left in
+    let some-p = l3 .before .before .if5 .left in
     let time = a .at in
     let «module» = time + t .digits + 1 in
     let pin = «module» + m .digits + 1 in
     let end = pin + p .digits in
-    let word = wordText (a .word) ++ fieldText (a .e) 44 in
+    let word = codeText (a .code) ++ fieldText (a .e) 44 in
     let withTime = word ++ fieldText (t .value) 44 in
     let withModule = withTime ++ fieldText (m .value) 44 in
     let line = withModule ++ digitsOf (p .value) in
-    field-earlier word s time 7 44 t _ (omega arith) (n1 .short-number .ensures) (l1 .before .before .if1 .left)
-    (is-byte _ _ (l1 .if2 .left))
-    (field-earlier withTime s «module» 2 44 m _ (omega arith) (n2 .two-digits .ensures)
-    (l2 .before .before .if3 .left)
+    let nine : NineDigitCall (a .e) (record { time = t .value; «module» = m .value; pin = p .value }) = record {
+      transaction = g .pre .2;
+      time = nine-digits s time 7 t ft some-t;
+      «module» = nine-digits s «module» 2 m fm some-m;
+      pin = nine-digits s pin 2 p fp some-p;
+    } in
+    field-earlier word s time 7 t ft some-t 44 _ (omega (arith, ft .few)) (is-byte _ _ (l1 .if2 .left))
+    (field-earlier withTime s «module» 2 m fm some-m 44 _ (omega (arith, ft .few, fm .few))
     (is-byte _ _ (l2 .if4 .left))
-    (number-earlier withModule s pin 2 p _ (omega arith) (n3 .two-digits2 .ensures) (l3 .before .before .if5 .left)
-    (ended line s _ end (call-line (wordText (a .word)) (a .e) _ _ (c .cue-step .ensures)) (omega arith)
-    (is-byte _ _ (l3 .if6 .left)))))
+    (number-earlier withModule s pin 2 p fp some-p _
+    (ended line s _ end (call-line (a .code) (a .e) _ _ (g .pre .1) (c .cue-word .ensures) nine)
+    (omega (arith, ft .few, fm .few, fp .few)) (is-byte _ _ (l3 .if6 .left)))))
 
 pub quick-cue-spec : {M : Type 1} → statement M
 quick-cue-spec =
     tie.close
     (tie.spec
-    short-number-requires
+    time-at-requires
     add-time-end
     shared-slice-read-if2
     returns
-    add-two-digits
-    two-digits-requires
+    add-address-at
+    address-at-requires
     add-module-end
     add-module-end-2
     shared-slice-read-if4
     returns-2
-    add-two-digits-2
-    two-digits-requires-2
+    add-address-at-2
+    address-at-requires-2
     add-end
     add-end-2
     shared-slice-read-if6
     returns-3
-    cue-step-requires
+    cue-word-requires
     returns-4)
