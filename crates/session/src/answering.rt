@@ -14,6 +14,7 @@ ghost use Rattle.store_words.specs.Performed.{Shows};
 ghost use Rattle.session.specs.Output.{answerLines};
 ghost use Rattle.session.specs.Answering.{RoomFor, Kept};
 use buffers::Written;
+use quick_words::word_table;
 use scanning::scan_step;
 use short_answers::write_answer;
 use store::execute;
@@ -53,10 +54,11 @@ fn answer_lines(
         (run (storeOf (now (script .entry)) (now (queue .entry)) (now (ts .entry)))
         (linesOf (now (text .entry))) .store) ⌝ }
 {
+    let words = word_table();
     let mut sum = 0;
     let mut at = 0;
     while at < text.len() {
-        let scanned = scan_step(text, at);
+        let scanned = scan_step(&words, text, at);
         let step = scanned.step;
         let answer = execute(script, queue, ts, step);
         let place = place_of(keep, sum);
