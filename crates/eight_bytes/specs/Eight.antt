@@ -15,6 +15,12 @@ abbrev pub AllBytes : List ℕ → Type 0
 AllBytes [] = Unit {0}
 AllBytes (b ∷ l) = (b < 256) × AllBytes l
 
+-- four bytes at a place; the last clause is the range that makes a sum of two such numbers fit
+pub record FourFit (s : List ℕ) (at r : ℕ) : Type 0 where
+  pub value : r ≡ numberFrom (take 4 (drop at s))
+  pub bytes : AllBytes (take 4 (drop at s))
+  pub small : r < 4294967296
+
 -- the number of the eight bytes at a place; 0 where there are not eight
 abbrev pub eightAt : List ℕ → ℕ → ℕ
 eightAt s at = cond (leb (at + 8) (length s)) (numberFrom (take 8 (drop at s))) 0

@@ -1,31 +1,15 @@
--- The text of each word, and that the bytes read as a word are its text. Assumes nothing.
+-- The bytes read as a word are its text. Assumes nothing.
 use mathlib.Core.Path.{_≡_, refl}
 use mathlib.Core.Bool.{Bool, true, false, cond}
 use mathlib.Core.List.{List}
 use Prim.Native.Nat.{ℕ}
 use Rattle.lines.specs.Ascii.{bytes}
-use Rattle.step_words.specs.declared.NumberWord.{NumberWord}
 use Rattle.step_words.specs.declared.NumberWord.the-variants.{Begin, Min, Take, Commit, Undo, Back}
-use Rattle.step_words.specs.declared.CueWord.{CueWord}
 use Rattle.step_words.specs.declared.CueWord.the-variants.{Add, Remove, Has, Push}
 use Rattle.step_words.specs.declared.Word.{Word}
 use Rattle.step_words.specs.declared.Word.the-variants.{WithNumber, WithCue, Unknown}
-use Rattle.step_words.specs.Word.{same, wordOf}
+use Rattle.step_words.specs.Word.{same, wordOf, numberWord, cueWord}
 use Rattle.step_words.proofs.Words.{same-true}
-
-abbrev pub numberWord : NumberWord → List ℕ
-numberWord Begin = bytes "begin"
-numberWord Min = bytes "min"
-numberWord Take = bytes "take"
-numberWord Commit = bytes "commit"
-numberWord Undo = bytes "undo"
-numberWord Back = bytes "back"
-
-abbrev pub cueWord : CueWord → List ℕ
-cueWord Add = bytes "add"
-cueWord Remove = bytes "remove"
-cueWord Has = bytes "has"
-cueWord Push = bytes "push"
 
 abbrev pub IsWord : List ℕ → Word → Type 0
 IsWord w (WithNumber k) = w ≡ numberWord k

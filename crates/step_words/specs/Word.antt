@@ -4,7 +4,9 @@ use mathlib.Core.Bool.{Bool, true, false, cond, _&&_}
 use mathlib.Core.List.{List, [], _∷_}
 use lib.Dec.{eqb}
 use Rattle.lines.specs.Ascii.{bytes}
+use Rattle.step_words.specs.declared.NumberWord.{NumberWord}
 use Rattle.step_words.specs.declared.NumberWord.the-variants.{Begin, Min, Take, Commit, Undo, Back}
+use Rattle.step_words.specs.declared.CueWord.{CueWord}
 use Rattle.step_words.specs.declared.CueWord.the-variants.{Add, Remove, Has, Push}
 use Rattle.step_words.specs.declared.Word.{Word}
 use Rattle.step_words.specs.declared.Word.the-variants.{WithNumber, WithCue, Unknown}
@@ -30,3 +32,18 @@ wordOf w =
     (cond (same w (bytes "undo")) (WithNumber Undo)
     (cond (same w (bytes "back")) (WithNumber Back)
     Unknown)))))))))
+
+-- the text of each word
+abbrev pub numberWord : NumberWord → List ℕ
+numberWord Begin = bytes "begin"
+numberWord Min = bytes "min"
+numberWord Take = bytes "take"
+numberWord Commit = bytes "commit"
+numberWord Undo = bytes "undo"
+numberWord Back = bytes "back"
+
+abbrev pub cueWord : CueWord → List ℕ
+cueWord Add = bytes "add"
+cueWord Remove = bytes "remove"
+cueWord Has = bytes "has"
+cueWord Push = bytes "push"

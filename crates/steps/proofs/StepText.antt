@@ -30,7 +30,7 @@ use Rattle.step_words.specs.declared.CueWord.{CueWord}
 use Rattle.step_words.specs.declared.CueWord.the-variants.{Add, Remove, Has, Push}
 use Rattle.steps.specs.Step.{numberStep, numbered, cueStep, cued}
 use Rattle.steps.specs.StepText.{callText, stepText, NineDigits, NineDigitCall, NineDigitStep}
-use Rattle.step_words.proofs.WordText.{numberWord, cueWord}
+use Rattle.step_words.specs.Word.{numberWord, cueWord}
 use Rattle.steps.proofs.Steps.{number-nil}
 
 -- ---- written, then read

@@ -47,11 +47,11 @@ use Rattle.steps.specs.declared.reading.Step.the-variants.{
   RollBack,
   Malformed,
 }
-use Rattle.step_words.specs.Word.{same, wordOf}
+use Rattle.step_words.specs.Word.{same, wordOf, numberWord, cueWord}
 use Rattle.steps.specs.Step.{numbered, cued, stepWith}
 use Rattle.steps.specs.StepText.{callText, stepText, NineDigitStep}
 use Rattle.steps.specs.Theorems.{StepWriteThenRead, StepReadIsCanonical}
-use Rattle.step_words.proofs.WordText.{numberWord, cueWord, IsWord, is-word}
+use Rattle.step_words.proofs.WordText.{IsWord, is-word}
 use Rattle.steps.proofs.StepText.{number-written, call-written, number-text, call-text}
 use Rattle.steps.proofs.StepText.{at-comma, not-nil, call-canonical}
 
