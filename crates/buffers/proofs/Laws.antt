@@ -1,6 +1,6 @@
 -- Laws of writing into a buffer: several stores in a row, and the two answers of `writtenAt`. Assumes nothing.
 use mathlib.Core.Path.{_≡_, refl, sym, ap, _∙_}
-use mathlib.Core.Bool.{Bool, true, false}
+use mathlib.Core.Bool.{Bool, true, false, not}
 use mathlib.Core.List.{List, [], _∷_, _++_}
 use Prim.Native.Nat.{ℕ, suc, _+_, _≤_, _<_}
 use native.Mathlib.Nat.{add-zero}
@@ -9,7 +9,7 @@ use lib.Dec.{leb}
 use native.Mathlib.Numerals.{add-one}
 use lib.ListN.{length, getD, set, take}
 use lib.Seq.{sets, sets-eq, take-suc, length-take-le}
-use borrow.Author.Tests.{le-leb, lt-leb, leb-true, leb-false}
+use borrow.Author.Tests.{le-leb, lt-leb, leb-true, leb-false, not-false}
 use Rattle.refusals.specs.declared.Refusal.the-variants.{BufferTooShort}
 use Rattle.buffers.specs.declared.Written.{Written}
 use Rattle.buffers.specs.declared.Written.the-variants.{Upto, Refused}
@@ -51,6 +51,10 @@ room b all at n m e t q = let h : at + n ≤ all = leb-true _ _ (sym e ∙ t) in
 
 pub no-room : (b : Bool) (all at n m : ℕ) → b ≡ leb (at + n) all → b ≡ false → n ≡ m → all < at + m
 no-room b all at n m e t q = let h : all < at + n = leb-false _ _ (sym e ∙ t) in omega arith
+
+-- the test for too little room failed
+pub has-room : (b : Bool) (n all : ℕ) → b ≡ leb n all → not b ≡ false → n ≤ all
+has-room b n all e f = leb-true n all (sym e ∙ not-false b f)
 
 -- a callee wrote where the bytes fit: what its answer was, and what it left
 pub written-back : (r : Written) (buf mid bytes : List ℕ) (at : ℕ) → at + length bytes ≤ length buf

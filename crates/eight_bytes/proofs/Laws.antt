@@ -10,7 +10,7 @@ use lib.Arith.{mod-mul}
 use lib.Dec.{leb}
 use lib.ListN.{length, getD, take, drop, length-drop}
 use lib.Seq.{drop-cons, drop-drop, take-add, length-take-le}
-use borrow.Author.Tests.{leb-true, leb-false, le-leb, not-true, not-false}
+use borrow.Author.Tests.{leb-false, le-leb, not-true}
 use Rattle.eight_bytes.specs.Eight.{numberFrom, AllBytes, FourFit, EightFit}
 
 -- ---- lists of bytes
@@ -115,9 +115,6 @@ pub eight-value : (s : List ℕ) (at r : ℕ) → EightFit s at r → at + 8 ≤
 eight-value s at r f h = f .value ∙ rw (le-leb (at + 8) (length s) h) refl
 
 -- ---- the test for room
-pub room : (s : List ℕ) (at : ℕ) (t : Bool) → t ≡ leb (at + 8) (length s) → not t ≡ false → at + 8 ≤ length s
-room s at t e f = leb-true (at + 8) (length s) (sym e ∙ not-false t f)
-
 pub eight-none : (s : List ℕ) (at : ℕ) (t : Bool) → t ≡ leb (at + 8) (length s) → not t ≡ true → EightFit s at 0
 eight-none s at t e f =
     let g : leb (at + 8) (length s) ≡ false = sym e ∙ not-true t f in

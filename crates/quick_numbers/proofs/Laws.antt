@@ -1,5 +1,5 @@
 -- Laws of a short number: the digits that have been passed, and the digits that stand there. Assumes nothing.
-use Prim.Native.Nat.{ℕ, suc, _+_, _*_, _-_, _/_, _^_, _≤_, _<_}
+use Prim.Native.Nat.{ℕ, suc, _+_, _*_, _-_, _/_, _≤_, _<_}
 use mathlib.Core.Path.{_≡_, refl, sym, ap, _∙_}
 use mathlib.Core.List.{List, [], _∷_}
 use mathlib.Core.Logic.{⊎-elim}
@@ -11,18 +11,18 @@ use Rattle.digits.specs.Digits.{digitsOf}
 use Rattle.numbers.specs.Number.{valueFrom}
 use Rattle.digits.proofs.Laws.{digits-pos, digits-step}
 use Rattle.lines.proofs.Laws.{lt-or-ge}
-use Rattle.numbers.proofs.Laws.{ten-more, value-more, value-end, number-good}
+use Rattle.numbers.proofs.Laws.{value-more, value-end, number-good}
 use Rattle.numbers.proofs.Theorems.{read-is-canonical}
 use Rattle.records.specs.Record.{fieldText}
 use Rattle.quick_numbers.specs.declared.Short.{Short}
-use Rattle.quick_numbers.specs.Short.{Stands, ShortFits}
-use Rattle.quick_numbers.proofs.Standing.{one, join}
+use Rattle.lines.specs.Standing.{Stands}
+use Rattle.quick_numbers.specs.Short.{ShortFits}
+use Rattle.lines.proofs.Standing.{one, join}
 
 -- ---- the digits passed
 -- i digits with the value n: what stands behind them is read on as what stands from the place on is read
 pub record Passed (s : List ℕ) (at most n i : ℕ) : Type 0 where
   pub few : i ≤ most
-  pub fits : n < 10 ^ i
   pub value : (k : ℕ) → valueFrom n (take k (drop (at + i) s)) ≡ valueFrom 0 (take (i + k) (drop at s))
 
 pub passed-none : (s : List ℕ) (at most : ℕ) → Passed s at most 0 0
@@ -30,21 +30,18 @@ passed-none s at most =
     let e : at + 0 ≡ at = omega arith in
     record {
       few = omega arith;
-      fits = omega arith;
       value = λ k. let z : 0 + k ≡ k = omega arith in rw (e, z) refl;
     }
 
 pub passed-more : (s : List ℕ) (at most n i d : ℕ) → Passed s at most n i → i < most → at + most ≤ length s → d ≤ 9
     → getD s (at + i) 0 ≡ 48 + d → Passed s at most (n * 10 + d) (i + 1)
 passed-more s at most n i d p h l g e =
-    let t = ten-more i in
     let a : at + i < length s = omega arith in
     let j : suc (at + i) ≡ at + (i + 1) = omega arith in
     let b : 48 + d - 48 ≡ d = omega arith in
     let next : drop (at + i) s ≡ (48 + d) ∷ drop (at + (i + 1)) s = drop-cons s (at + i) 0 a ∙ rw (e, j) refl in
     record {
       few = omega arith;
-      fits = omega (arith, p .fits);
       value = λ k.
           let c : i + suc k ≡ i + 1 + k = omega arith in
           let v = value-more (48 + d) (take k (drop (at + (i + 1)) s)) n (omega arith) (omega arith) in

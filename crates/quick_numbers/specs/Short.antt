@@ -8,10 +8,6 @@ use Rattle.numbers.specs.declared.Number.the-variants.{Value}
 use Rattle.numbers.specs.Number.{numberOf}
 use Rattle.quick_numbers.specs.declared.Short.{Short}
 
--- the bytes t stand at a place of a text
-abbrev pub Stands : List ℕ → ℕ → List ℕ → Type 0
-Stands s at t = take (length t) (drop at s) ≡ t
-
 -- at most so many digits at a place, all within the text, and their number
 pub record ShortFits (s : List ℕ) (at most : ℕ) (r : Short) : Type 0 where
   pub few : r .digits ≤ most

@@ -3,10 +3,27 @@
 // An answer has no digits where the text ends too soon, where no digit stands there, and where a number has a leading
 // zero. No public function has a `requires`.
 ghost use mathlib.Core.Path.{_≡_};
-ghost use Prim.Native.Nat.{_+_, _≤_, _<_};
+ghost use Prim.Native.Nat.{_+_, _*_, _-_, _%_, _^_, _≤_, _<_};
 ghost use lib.ListN.{length, getD};
+ghost use Rattle.quick_numbers.specs.Bytes.{Digits, folded};
 ghost use Rattle.quick_numbers.specs.Short.{ShortFits};
 use buffers::fits;
+use eight_bytes::eight_bytes;
+
+// Eight bytes 48, the digit 0.
+const EACH_48: u64 = 3472328296227680304;
+
+// Eight bytes 118: a byte at most 9 stays below 128 with it, any other reaches 128.
+const EACH_118: u64 = 8536140394893047414;
+
+// Eight bytes 128.
+const TOP_BITS: u64 = 9259542123273814144;
+
+// The first, third, fifth and seventh byte.
+const EVERY_SECOND_BYTE: u64 = 71777214294589695;
+
+// The first two bytes, and the fifth and sixth.
+const EVERY_SECOND_TWO: u64 = 281470681808895;
 
 // A number, and how many digits it has; none where the digits are no number.
 pub struct Short {
@@ -86,34 +103,59 @@ pub fn two_digits(text: &[u8], at: usize) -> Short
     }
 }
 
-// A number of at most seven digits.
+// Zero where each of the eight bytes of `z` is at most 9; else its lowest bit stands in the first larger byte.
+fn larger_bytes(z: u64) -> u64
+    ensures { λ r. ⌜ (r ≡ 0 → Digits 8 z) ⌝ }
+{
+    (std::num::wrapping_add_u64(z, EACH_118) | z) & TOP_BITS
+}
+
+// The first `n` bytes of `z` with zeros in front, eight bytes again.
+fn moved_up(z: u64, n: usize) -> u64
+    requires { ⌜ (1 ≤ n) × (n ≤ 7) ⌝ }
+    ensures { λ r. ⌜ r ≡ z * 2 ^ (64 - 8 * n) % 2 ^ 64 ⌝ }
+{
+    z << (64 - 8 * n)
+}
+
+// The number of eight digits, of which the lowest byte is the first: folded in pairs, in fours, and all.
+fn number_of(y: u64) -> u64
+    requires { ⌜ Digits 8 y ⌝ }
+    ensures { λ r. ⌜ r ≡ folded 8 0 y ⌝ }
+{
+    let pairs = (y * 10 + (y >> 8)) & EVERY_SECOND_BYTE;
+    let fours = (pairs * 100 + (pairs >> 16)) & EVERY_SECOND_TWO;
+    (fours * 10000 + (fours >> 32)) % 4294967296
+}
+
+// A number of at most seven digits, in eight bytes. How many there are cannot be guessed, so nothing branches on it:
+// the first byte that is no digit tells the count, and with zeros in front there are always eight digits to fold.
 pub fn seven_digits(text: &[u8], at: usize) -> Short
     ensures { λ r. ⌜ ShortFits (now (text .entry)) at 7 r ⌝ }
 {
-    if !fits(text.len(), at, 7) {
+    let z = std::num::wrapping_sub_u64(eight_bytes(text, at), EACH_48);
+    let n = (u64::trailing_zeros(larger_bytes(z)) / 8) as usize;
+    if n < 1 || 7 < n {
         return Short {
             value: 0,
             digits: 0,
         };
     }
-    let mut n: u64 = 0;
-    let mut i = 0;
-    while i < 7 {
-        let d = digit_at(text, at + i);
-        if 9 < d {
-            break;
-        }
-        n = n * 10 + d;
-        i += 1;
+    let y = moved_up(z, n);
+    if larger_bytes(y) != 0 {
+        return Short {
+            value: 0,
+            digits: 0,
+        };
     }
-    if 1 < i && text[at] == 48 {
+    if 1 < n && z % 256 == 0 {
         return Short {
             value: 0,
             digits: 0,
         };
     }
     Short {
-        value: n,
-        digits: i,
+        value: number_of(y),
+        digits: n,
     }
 }

@@ -3,7 +3,7 @@ use native.Mathlib.Omega.{arith}
 use lib.ListN.{length}
 use borrow.Author.Needs.{needs}
 use Rattle.quick_numbers.proofs.Laws.{passed-one, passed-all, no-digits}
-use Rattle.quick_numbers.proofs.Standing.{has-room}
+use Rattle.buffers.proofs.Laws.{has-room}
 use Rattle.quick_numbers.proofs.one_digit.Statement.{statement}
 use Rattle.quick_numbers.proofs.one_digit.Tie as tie
 

@@ -5,7 +5,7 @@ use lib.ListN.{length}
 use borrow.Author.Tests.{eqb-false}
 use borrow.Author.Needs.{needs}
 use Rattle.quick_numbers.proofs.Laws.{Passed, passed-one, passed-more, passed-all, no-digits}
-use Rattle.quick_numbers.proofs.Standing.{has-room}
+use Rattle.buffers.proofs.Laws.{has-room}
 use Rattle.quick_numbers.proofs.two_digits.Statement.{statement}
 use Rattle.quick_numbers.proofs.two_digits.Tie as tie
 

@@ -1,7 +1,9 @@
 -- `quick_words::quick_word` meets its contract. Assumes nothing.
+use Prim.Native.Nat.{_+_}
 use native.Mathlib.Omega.{arith}
+use lib.ListN.{length}
 use borrow.Author.Needs.{needs}
-use Rattle.eight_bytes.proofs.Laws.{room}
+use Rattle.buffers.proofs.Laws.{has-room}
 use Rattle.quick_words.proofs.Laws.{word-found}
 use Rattle.quick_words.proofs.quick_word.Statement.{statement}
 use Rattle.quick_words.proofs.quick_word.Tie as tie
@@ -48,7 +50,7 @@ returns-3 c =
     let f = x .before .before in
     let s = f .before .before in
     let t = s .args .text .now in
-    let h = room t (s .args .at) _ (f .fits2 .ensures) (x .before .if1 .left) in
+    let h = has-room _ (s .args .at + 8) (length t) (f .fits2 .ensures) (x .before .if1 .left) in
     word-found (s .args .words .now) (s .pre) _ (omega arith) t (s .args .at) _ (x .eight-bytes .ensures) h
     (c .if2 .left)
 

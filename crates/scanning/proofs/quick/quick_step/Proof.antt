@@ -4,7 +4,7 @@ use mathlib.Core.Path.{_≡_, ap}
 use native.Mathlib.Omega.{arith}
 use lib.ListN.{length}
 use Rattle.quick_words.specs.QuickWord.{codeText}
-use Rattle.scanning.proofs.Tests.{has-room}
+use Rattle.buffers.proofs.Laws.{has-room}
 use Rattle.scanning.proofs.Completing.{word-found, rest-scans}
 use borrow.Author.Needs.{needs}
 use Rattle.scanning.proofs.quick.quick_step.Statement.{statement}

@@ -1,0 +1,12 @@
+-- The bytes of a number in base 256, lowest first, as the values of digits. Assumes nothing.
+use Prim.Native.Nat.{ℕ, zero, suc, _+_, _*_, _/_, _%_, _≤_}
+
+-- the first k bytes are at most 9
+abbrev pub Digits : ℕ → ℕ → Type 0
+Digits zero y = Unit {0}
+Digits (suc k) y = (y % 256 ≤ 9) × Digits k (y / 256)
+
+-- the number of the first k bytes as digits, behind the digits of v
+abbrev pub folded : ℕ → ℕ → ℕ → ℕ
+folded zero v y = v
+folded (suc k) v y = folded k (v * 10 + y % 256) (y / 256)
