@@ -13,10 +13,9 @@ ghost use Rattle.store_words.specs.Words.{storeOf, StoreFits};
 ghost use Rattle.store_words.specs.Performed.{Shows};
 ghost use Rattle.session.specs.Output.{answerLines};
 ghost use Rattle.session.specs.Answering.{RoomFor, Kept};
-use buffers::Written;
 use quick_words::word_table;
 use scanning::scan_step;
-use short_answers::write_answer;
+use short_answers::append_answer;
 use store::execute;
 
 // Every answer line has at most so many bytes.
@@ -62,10 +61,7 @@ fn answer_lines(
         let step = scanned.step;
         let answer = execute(script, queue, ts, step);
         let place = place_of(keep, sum);
-        let Written::Upto(end) = write_answer(buf, place, answer) else {
-            return sum;
-        };
-        sum += end - place;
+        sum += append_answer(buf, place, answer) - place;
         at = scanned.end + 1;
     }
     sum

@@ -1,18 +1,19 @@
-// Answers to steps, written quickly: most have a short line.
+// Answers to steps, appended quickly: most have a short line.
 //
 // Where twelve bytes fit, as the longest short line has, its bytes are stored straight: no more tests of the room, and
-// no digits counted. The compiler makes one store of the bytes of each `put_`. Any other line is left to `answers`.
-// The public function has no `requires`.
+// no digits counted. The compiler makes one store of the bytes of each `put_`. Any other line is left to `answers`. Only
+// a place is answered, which stays in a register. The public function has no `requires`.
 ghost use mathlib.Core.Path.{_≡_};
 ghost use mathlib.Core.List.{[], _∷_, _++_};
 ghost use Prim.Native.Nat.{_+_, _≤_, _<_};
 ghost use lib.ListN.{length};
 ghost use lib.Seq.{sets};
-ghost use Rattle.buffers.specs.Written.{writtenAt};
 ghost use Rattle.records.specs.Record.{fieldText, recordText};
 ghost use Rattle.lines.specs.Ascii.{bytes};
 ghost use Rattle.answers.specs.Answer.{rowText, refusalText, answerText};
+ghost use Rattle.short_answers.specs.Appended.{placeAfter, appendedAt};
 use answers::Answer;
+use answers::write_answer;
 use buffers::Written;
 use buffers::fits;
 use records::write_record;
@@ -68,92 +69,103 @@ fn put_refused_word(buf: &mut [u8], at: usize)
     put_three(buf, at + 4, b's', b'e', b'd');
 }
 
-// Writes the line `left,n` with its LF where twelve bytes fit.
-fn write_left_in_room(buf: &mut [u8], at: usize, n: u64) -> Written
+// The place behind what was written; the place itself where nothing was.
+fn place_after(at: usize, written: Written) -> usize
+    ensures { λ r. ⌜ r ≡ placeAfter at written ⌝ }
+{
+    match written {
+        Written::Upto(end) => end,
+        Written::Refused(_) => at,
+    }
+}
+
+// Appends the line `left,n` with its LF where twelve bytes fit.
+fn append_left(buf: &mut [u8], at: usize, n: u64) -> usize
     requires { ⌜ at + 12 ≤ length (now buf) ⌝ }
-    ensures { λ r. ⌜ (r, now (buf .exit)) ≡ writtenAt (now (buf .entry)) at (bytes "left," ++ fieldText n 10) ⌝ }
+    ensures { λ r. ⌜ (r, now (buf .exit)) ≡ appendedAt (now (buf .entry)) at (bytes "left," ++ fieldText n 10) ⌝ }
 {
     if n < 10 {
         put_four(buf, at, b'l', b'e', b'f', b't');
         put_last_digit(buf, at + 4, n);
-        return Written::Upto(at + 7);
+        return at + 7;
     }
-    write_number_line(buf, at, b"left,", n)
+    place_after(at, write_number_line(buf, at, b"left,", n))
 }
 
-// Writes the line `refused,n` with its LF where twelve bytes fit.
-fn write_row_in_room(buf: &mut [u8], at: usize, n: u64) -> Written
+// Appends the line `refused,n` with its LF where twelve bytes fit.
+fn append_row(buf: &mut [u8], at: usize, n: u64) -> usize
     requires { ⌜ at + 12 ≤ length (now buf) ⌝ }
-    ensures { λ r. ⌜ (r, now (buf .exit)) ≡ writtenAt (now (buf .entry)) at (rowText n) ⌝ }
+    ensures { λ r. ⌜ (r, now (buf .exit)) ≡ appendedAt (now (buf .entry)) at (rowText n) ⌝ }
 {
     if n < 10 {
         put_refused_word(buf, at);
         put_last_digit(buf, at + 7, n);
-        return Written::Upto(at + 10);
+        return at + 10;
     }
-    write_number_line(buf, at, b"refused,", n)
+    place_after(at, write_number_line(buf, at, b"refused,", n))
 }
 
-// Writes the line `refused,8,e` with its LF where twelve bytes fit.
-fn write_blocked_in_room(buf: &mut [u8], at: usize, e: u64) -> Written
+// Appends the line `refused,8,e` with its LF where twelve bytes fit.
+fn append_blocked(buf: &mut [u8], at: usize, e: u64) -> usize
     requires { ⌜ at + 12 ≤ length (now buf) ⌝ }
-    ensures { λ r. ⌜ (r, now (buf .exit)) ≡ writtenAt (now (buf .entry)) at (recordText (bytes "refused") 8 e) ⌝ }
+    ensures { λ r. ⌜ (r, now (buf .exit)) ≡ appendedAt (now (buf .entry)) at (recordText (bytes "refused") 8 e) ⌝ }
 {
     if e < 10 {
         put_refused_word(buf, at);
         put_two(buf, at + 7, b',', b'8');
         put_last_digit(buf, at + 9, e);
-        return Written::Upto(at + 12);
+        return at + 12;
     }
-    write_record(buf, at, b"refused", 8, e)
+    place_after(at, write_record(buf, at, b"refused", 8, e))
 }
 
-// Writes the line of a refusal with its LF where twelve bytes fit.
-fn write_refusal_in_room(buf: &mut [u8], at: usize, refusal: Refusal) -> Written
+// Appends the line of a refusal with its LF where twelve bytes fit.
+fn append_refusal(buf: &mut [u8], at: usize, refusal: Refusal) -> usize
     requires { ⌜ at + 12 ≤ length (now buf) ⌝ }
-    ensures { λ r. ⌜ (r, now (buf .exit)) ≡ writtenAt (now (buf .entry)) at (refusalText refusal) ⌝ }
+    ensures { λ r. ⌜ (r, now (buf .exit)) ≡ appendedAt (now (buf .entry)) at (refusalText refusal) ⌝ }
 {
     if let Refusal::Blocked(e) = refusal {
-        return write_blocked_in_room(buf, at, e as u64);
+        return append_blocked(buf, at, e as u64);
     }
-    write_row_in_room(buf, at, refusal_number(refusal))
+    append_row(buf, at, refusal_number(refusal))
 }
 
-// Writes the line of an answer with its LF where twelve bytes fit.
-fn write_answer_in_room(buf: &mut [u8], at: usize, answer: Answer) -> Written
+// Appends the line of an answer with its LF where twelve bytes fit.
+fn append_in_room(buf: &mut [u8], at: usize, answer: Answer) -> usize
     requires { ⌜ at + 12 ≤ length (now buf) ⌝ }
-    ensures { λ r. ⌜ (r, now (buf .exit)) ≡ writtenAt (now (buf .entry)) at (answerText answer) ⌝ }
+    ensures { λ r. ⌜ (r, now (buf .exit)) ≡ appendedAt (now (buf .entry)) at (answerText answer) ⌝ }
 {
     match answer {
         Answer::Ok => {
             put_three(buf, at, b'o', b'k', b'\n');
-            Written::Upto(at + 3)
+            at + 3
         }
         Answer::Yes => {
             put_four(buf, at, b'y', b'e', b's', b'\n');
-            Written::Upto(at + 4)
+            at + 4
         }
         Answer::No => {
             put_three(buf, at, b'n', b'o', b'\n');
-            Written::Upto(at + 3)
+            at + 3
         }
         Answer::Empty => {
             put_four(buf, at, b'e', b'm', b'p', b't');
             put_two(buf, at + 4, b'y', b'\n');
-            Written::Upto(at + 6)
+            at + 6
         }
-        Answer::Cue(cue) => write_cue_line(buf, at, cue),
-        Answer::Left(n) => write_left_in_room(buf, at, n as u64),
-        Answer::Refused(refusal) => write_refusal_in_room(buf, at, refusal),
+        Answer::Cue(cue) => place_after(at, write_cue_line(buf, at, cue)),
+        Answer::Left(n) => append_left(buf, at, n as u64),
+        Answer::Refused(refusal) => append_refusal(buf, at, refusal),
     }
 }
 
-// Writes the line of an answer, with its LF, at a place of the buffer, if it fits there.
-pub fn write_answer(buf: &mut [u8], at: usize, answer: Answer) -> Written
-    ensures { λ r. ⌜ (r, now (buf .exit)) ≡ writtenAt (now (buf .entry)) at (answerText answer) ⌝ }
+// Appends the line of an answer, with its LF, at a place of the buffer, if it fits there; answers the place behind it,
+// or the same place.
+pub fn append_answer(buf: &mut [u8], at: usize, answer: Answer) -> usize
+    ensures { λ r. ⌜ (r, now (buf .exit)) ≡ appendedAt (now (buf .entry)) at (answerText answer) ⌝ }
 {
     if fits(buf.len(), at, 12) {
-        return write_answer_in_room(buf, at, answer);
+        return append_in_room(buf, at, answer);
     }
-    answers::write_answer(buf, at, answer)
+    place_after(at, write_answer(buf, at, answer))
 }

@@ -6,8 +6,7 @@ use mathlib.Core.Logic.{_⊎_, inl, inr}
 use native.Mathlib.Omega.{arith}
 use lib.ListN.{length, take, drop}
 use Rattle.buffers.specs.Put.{Put}
-use Rattle.buffers.proofs.Answers.{not-refused}
-use Rattle.buffers.proofs.Puts.{wrote}
+use Rattle.short_answers.proofs.ShortLines.{appended-put}
 use Rattle.answers.specs.Answer.{answerText}
 use Rattle.boosting.specs.Step.{Out, stepLine}
 use Rattle.store_words.specs.Words.{storeOf, StoreFits}
@@ -54,7 +53,7 @@ lined x =
     )
 
 -- there is room for the answer line
-fits : (w : tie.After-write-answer Inv-loop μ-loop) →
+fits : (w : tie.After-append-answer Inv-loop μ-loop) →
     let p = w .before .before in
     let l = p .before .before .before .before .before .before .before .before .loop in
     p .place-of .result + length (answerText (p .before .execute .result)) ≤ length (l .buf)
@@ -72,16 +71,15 @@ fits w =
     (s .args .keep) (s .args .buf .now) (l .buf) _ (l .inv .1) (s .pre .1) (p .place-of .ensures)
 
 -- the answer line stands there
-written : (n : tie.After-end Inv-loop μ-loop) →
-    let w = n .before .before .before .before in
+written : (w : tie.After-append-answer Inv-loop μ-loop) →
     let p = w .before .before in
     let l = p .before .before .before .before .before .before .before .before .loop in
-    Put (l .buf) (p .place-of .result) (answerText (p .before .execute .result)) (n .end .given .0 .0)
-    (w .write-answer .last .0)
-written n =
-    let w = n .before .before .before .before in
-    wrote _ (w .write-answer .last .0) (answerText (w .before .before .before .execute .result)) _ _ _ (fits w)
-    (w .write-answer .ensures) (n .end .given .1)
+    Put (l .buf) (p .place-of .result) (answerText (p .before .execute .result)) (w .append-answer .result)
+    (w .append-answer .last .0)
+written w =
+    let p = w .before .before in
+    appended-put _ (w .append-answer .last .0) (answerText (p .before .execute .result)) _ _ (fits w)
+    (w .append-answer .ensures)
 
 -- the sum does not run over
 sum-small : (sum place end size n : ℕ) → end ≡ place + n → size < 18446744073709551616
@@ -108,31 +106,15 @@ execute-requires c κs = search needs
 place-of-requires : tie.Need-place-of-requires Inv-loop μ-loop
 place-of-requires c κs = search needs
 
-write-answer-requires : tie.Need-write-answer-requires Inv-loop μ-loop
-write-answer-requires c κs = search needs
-
-enum-known-end : tie.Need-enum-known-end Inv-loop μ-loop
-enum-known-end c = search needs
-
-enum-told : tie.Need-enum-told Inv-loop μ-loop
-enum-told c = search needs
-
-same-length : tie.Need-same-length Inv-loop μ-loop
-same-length c = search needs
-
-returns : tie.Need-returns Inv-loop μ-loop
-returns c =
-    let w = c .before .before .before .before in
-    absurd
-    (not-refused _ (w .write-answer .last .0) (answerText (w .before .before .before .execute .result)) _ _ _ (fits w)
-    (w .write-answer .ensures) (c .enum-told .given .1))
+append-answer-requires : tie.Need-append-answer-requires Inv-loop μ-loop
+append-answer-requires c κs = search needs
 
 sub-sum : tie.Need-sub-sum Inv-loop μ-loop
-sub-sum c = omega (arith, written (c .before) .place)
+sub-sum c = omega (arith, written (c .before .before) .place)
 
 add-sum : tie.Need-add-sum Inv-loop μ-loop
 add-sum c =
-    let w = c .before .before .before .before .before in
+    let w = c .before .before in
     let p = w .before .before in
     let x = p .before in
     let g = x .before .before .before .before in
@@ -141,7 +123,7 @@ add-sum c =
     let l = o .loop in
     let r = g .scan-step in
     let b : length (l .buf) < 18446744073709551616 = omega (arith, l .inv .3) in
-    let n = sum-small (l .sum) (p .place-of .result) _ (length (l .buf)) _ (written (c .before) .place) b
+    let n = sum-small (l .sum) (p .place-of .result) _ (length (l .buf)) _ (written w .place) b
     (sum-fits (s .args .text .now) _ (storeOf (l .script) (l .queue) (l .ts)) (l .sum) (l .at) (r .result .end)
     (g .before .before .loop-test .taken) (r .ensures .end) _ (x .execute .result) (lined x .0) (lined x .1)
     (s .args .keep) (s .args .buf .now) (l .buf) (l .inv .1) (s .pre .1)) in
@@ -149,19 +131,18 @@ add-sum c =
 
 add-at : tie.Need-add-at Inv-loop μ-loop
 add-at c =
-    let g = c .before .before .before .before .before .before .before .before .before .before .before .before .before in
+    let g = c .before .before .before .before .before .before .before .before .before .before in
     let s = g .before .before .before .before .before .before .before in
     omega (arith, g .scan-step .ensures .within, g .before .before .loop-test .taken, s .good)
 
 loop-less : tie.Need-loop-less Inv-loop μ-loop
 loop-less c =
-    let g = c .before .before .before .before .before .before .before .before .before .before .before .before .before in
+    let g = c .before .before .before .before .before .before .before .before .before .before in
     omega (arith, g .scan-step .ensures .end, g .before .before .loop-test .taken)
 
 loop-again : tie.Need-loop-again Inv-loop μ-loop
 loop-again c =
-    let n = c .before .before in
-    let w = n .before .before .before .before in
+    let w = c .before .before .before in
     let p = w .before .before in
     let x = p .before in
     let g = x .before .before .before .before in
@@ -171,16 +152,16 @@ loop-again c =
     let r = g .scan-step in
     let v = passing-more (s .args .text .now) _ (storeOf (l .script) (l .queue) (l .ts)) (l .sum) (l .at)
     (r .result .end) (g .before .before .loop-test .taken) (r .ensures .end) _ (x .execute .result) (lined x .0) (lined x .1)
-    (s .args .keep) (s .args .buf .now) (l .buf) (w .write-answer .last .0) _ _ (l .inv .1) (p .place-of .ensures)
-    (written n) in
+    (s .args .keep) (s .args .buf .now) (l .buf) (w .append-answer .last .0) _ _ (l .inv .1) (p .place-of .ensures)
+    (written w) in
     let b = bounds (s .args .keep) _ _ _ _ _ _ _ v in
     (x .execute .ensures .fits, v, b .0, b .1)
 
-same-length-2 : tie.Need-same-length-2 Inv-loop μ-loop
-same-length-2 c = search needs
+same-length : tie.Need-same-length Inv-loop μ-loop
+same-length c = search needs
 
-returns-2 : tie.Need-returns-2 Inv-loop μ-loop
-returns-2 c =
+returns : tie.Need-returns Inv-loop μ-loop
+returns c =
     let o = c .before in
     let s = o .before .before .before .before in
     let l = o .loop in
@@ -201,15 +182,11 @@ answer-lines-spec =
     scan-step-requires
     execute-requires
     place-of-requires
-    write-answer-requires
-    enum-known-end
-    enum-told
-    same-length
-    returns
+    append-answer-requires
     sub-sum
     add-sum
     add-at
     loop-less
     loop-again
-    same-length-2
-    returns-2)
+    same-length
+    returns)
