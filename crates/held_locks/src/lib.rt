@@ -17,6 +17,7 @@ use transactions::Lock;
 use transactions::PUSHES;
 use transactions::SIEVE;
 use transactions::TAKES;
+use transactions::sieve_bit;
 
 // Whether a cue lock with this key can be held: the sieve has the key's bit. Where it has not, the lock is not held.
 pub fn may_hold(t: &[u64; 64], key: u64) -> bool
@@ -24,7 +25,7 @@ pub fn may_hold(t: &[u64; 64], key: u64) -> bool
     ensures { λ r. ⌜ (r ≡ passes (now (t .entry)) key)
         × (r ≡ false → memberOf key (transactionOf (now (t .entry)) .locks .cues) ≡ false) ⌝ }
 {
-    (t[SIEVE] >> (key % 63)) % 2 == 1
+    (t[SIEVE] >> sieve_bit(key)) % 2 == 1
 }
 
 // Whether a cue lock with this key is held.

@@ -1,5 +1,5 @@
 -- The locks in their words, and one more held. Assumes nothing.
-use Prim.Native.Nat.{ℕ, _+_, _%_, _^_, _<_}
+use Prim.Native.Nat.{ℕ, _+_, _^_, _<_}
 use mathlib.Core.Path.{_≡_, refl}
 use mathlib.Core.Bool.{true, false}
 use mathlib.Core.List.{List, [], _∷_, _++_}
@@ -12,7 +12,7 @@ use lib.ListN.{length, take, getD, set, length-set}
 use lib.Seq.{take-suc-set}
 use Rattle.tables.specs.Table.{memberOf}
 use Rattle.boosting.specs.Locks.{cueLock, pushMode, lookMode, takeMode, hold}
-use Rattle.transactions.specs.View.{locksOf, transactionOf, WordsFit, Made, withLock}
+use Rattle.transactions.specs.View.{locksOf, transactionOf, WordsFit, Made, withLock, sieveBit}
 use Rattle.transactions.proofs.Words.{
   other,
   same,
@@ -36,7 +36,7 @@ module _ (w : List ℕ) (f : WordsFit w) where
   held-already key m = record { is = rw m; fits = f }
 
   pub held-now : (key n s : ℕ) → memberOf key cues ≡ false → n ≡ getD w 60 0 → n < 24
-      → s ≡ bitOr (getD w 62 0) (2 ^ (key % 63))
+      → s ≡ bitOr (getD w 62 0) (2 ^ sieveBit key)
       → Made (set (set (set w n key) 60 (n + 1)) 62 s) (withLock (cueLock key) (transactionOf w))
   unfolding hold
   held-now key n s m e h q =

@@ -5,11 +5,11 @@
 // the model's rows have found it (`held_locks::locks_full`).
 ghost use mathlib.Core.Path.{_≡_};
 ghost use mathlib.Core.Bool.{false};
-ghost use Prim.Native.Nat.{_%_, _^_};
+ghost use Prim.Native.Nat.{_^_};
 ghost use lib.Bits.{bitOr};
 ghost use Rattle.boosting.specs.Locks.{cueLock};
 ghost use Rattle.boosting.specs.Room.{locksFull};
-ghost use Rattle.transactions.specs.View.{WordsFit, Made, transactionOf, withLock};
+ghost use Rattle.transactions.specs.View.{WordsFit, Made, transactionOf, withLock, sieveBit};
 ghost use Rattle.transactions.specs.Code.{modelLock};
 use held_locks::holds_cue;
 use transactions::LOCK_COUNT;
@@ -18,12 +18,13 @@ use transactions::Lock;
 use transactions::PUSHES;
 use transactions::SIEVE;
 use transactions::TAKES;
+use transactions::sieve_bit;
 
 // The sieve with the key's bit set.
 fn with_bit(sieve: u64, key: u64) -> u64
-    ensures { λ r. ⌜ r ≡ bitOr sieve (2 ^ (key % 63)) ⌝ }
+    ensures { λ r. ⌜ r ≡ bitOr sieve (2 ^ sieveBit key) ⌝ }
 {
-    sieve | (1 << (key % 63))
+    sieve | (1 << sieve_bit(key))
 }
 
 // The cue lock is held, once.

@@ -39,7 +39,7 @@ leads (b ∷ l) z r h e g = let a : b ≡ 48 = g in omega arith
 
 pub seven-fits : (s : List ℕ) (at x z y n v : ℕ) → EightFit s at x → (z + 3472328296227680304) % 2 ^ 64 ≡ x
     → 1 ≤ n → n ≤ 7 → y ≡ z * 2 ^ (64 - 8 * n) % 2 ^ 64 → Digits 8 y → v ≡ folded 8 0 y
-    → (1 < n → z % 256 ≡ 0 → ⊥) → ShortFits s at 7 (record { value = v; digits = n })
+    → n ≤ 1 + z % 256 * 9 → ShortFits s at 7 (record { value = v; digits = n })
 seven-fits s at x z y n v f e some few up d ev lead =
     let m = moved n y z (omega arith) up d in
     let r = room s at x z f e (first-digit n (m .low) z _ some (m .digits) (m .same)) in
@@ -59,6 +59,6 @@ seven-fits s at x z y n v f e some few up d ev lead =
       within = λ h. omega arith;
       number = λ h.
           number-good t (omega arith) (omega arith)
-          (λ o b. lead (omega arith) (leads l z _ (omega arith) k (sym first ∙ b)))
+          (λ o b. let q = leads l z _ (omega arith) k (sym first ∙ b) in omega arith)
           ∙ (ap (valueFrom 0) (sym tt) ∙ (w ∙ ap Value (m .value ∙ sym ev)));
     }

@@ -148,7 +148,8 @@ pub fn seven_digits(text: &[u8], at: usize) -> Short
             digits: 0,
         };
     }
-    if 1 < n && z % 256 == 0 {
+    // A first digit 0 allows one digit, any other allows seven: one comparison, as the first digit cannot be guessed.
+    if 1 + z % 256 * 9 < n as u64 {
         return Short {
             value: 0,
             digits: 0,

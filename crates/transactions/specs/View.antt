@@ -1,7 +1,8 @@
 -- The transaction that 64 words show. Words 0 to 23 are the keys of the cue locks, 24 to 39 the keys of the undo log's
 -- entries and 40 to 55 their kinds, oldest first; 56 is the standing; 57 to 59 are the queue's modes push, look and
--- take, 0 where a mode is not held; 60 counts the cue locks, 61 the entries; 62 is the sieve, which has the bit k % 63
--- of each cue lock k and is no part of the transaction. Words past a count and 63 mean nothing. Assumes nothing.
+-- take, 0 where a mode is not held; 60 counts the cue locks, 61 the entries; 62 is the sieve, which has the bit
+-- `sieveBit k` of each cue lock k and is no part of the transaction. Words past a count and 63 mean nothing. Assumes
+-- nothing.
 use Prim.Native.Nat.{ℕ, zero, suc, _+_, _/_, _%_, _^_, _≤_}
 use mathlib.Core.Path.{_≡_}
 use mathlib.Core.Bool.{Bool, cond, not}
@@ -44,13 +45,17 @@ transactionOf w = record {
   log = entriesOf (getD w 61 0) w;
 }
 
+-- the bit of a key in the sieve, by the low bits of its pin and of its time
+abbrev pub sieveBit : ℕ → ℕ
+sieveBit k = (k % 64 + k / 65536 % 64) % 64
+
 -- whether the sieve's word lets a key pass: it has the key's bit
 abbrev pub passes : List ℕ → ℕ → Bool
-passes w k = eqb (getD w 62 0 / 2 ^ (k % 63) % 2) 1
+passes w k = eqb (getD w 62 0 / 2 ^ sieveBit k % 2) 1
 
 -- a sieve has the bit of this key, and those of all these keys
 abbrev pub HasBit : ℕ → ℕ → Type 0
-HasBit sieve k = sieve / 2 ^ (k % 63) % 2 ≡ 1
+HasBit sieve k = sieve / 2 ^ sieveBit k % 2 ≡ 1
 
 abbrev pub Sieved : ℕ → List ℕ → Type 0
 Sieved sieve [] = Unit {0}

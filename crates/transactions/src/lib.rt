@@ -5,10 +5,11 @@
 // what is asked of its locks in `held_locks`, and one more lock in `new_locks`. A `requires` asks for what opening and
 // stepping establish: that the counts are in range, and that the sieve has the bit of each cue lock.
 ghost use mathlib.Core.Path.{_≡_};
+ghost use Prim.Native.Nat.{_<_};
 ghost use lib.ListN.{length};
 ghost use Rattle.boosting.specs.Store.{closedTransaction, openTransaction};
 ghost use Rattle.boosting.specs.Step.{aborted};
-ghost use Rattle.transactions.specs.View.{WordsFit, Made, transactionOf};
+ghost use Rattle.transactions.specs.View.{WordsFit, Made, transactionOf, sieveBit};
 ghost use Rattle.transactions.specs.Code.{modelStanding};
 
 // A lock on the cue with this key, or one of the queue's modes.
@@ -39,8 +40,15 @@ pub const LOCK_COUNT: usize = 60;
 
 pub const ENTRY_COUNT: usize = 61;
 
-// Where the sieve is: it has the bit `key % 63` of each cue lock, so that most locks are ruled out at a glance.
+// Where the sieve is: it has the bit `sieve_bit(key)` of each cue lock, so that most locks are ruled out at a glance.
 pub const SIEVE: usize = 62;
+
+// The bit of a key in the sieve: the sum of the low bits of its pin and of its time, which costs no multiplication.
+pub fn sieve_bit(key: u64) -> u64
+    ensures { λ r. ⌜ (r ≡ sieveBit key) × (r < 64) ⌝ }
+{
+    (key % 64 + key / 65536 % 64) % 64
+}
 
 // What the standing's word says; a mode that is held is 1, one that is not 0.
 const CLOSED: u64 = 0;

@@ -7,11 +7,16 @@ use Rattle.new_locks.proofs.Sieve.{bit-made}
 use Rattle.new_locks.proofs.with_bit.Statement.{statement}
 use Rattle.new_locks.proofs.with_bit.Tie as tie
 
+sieve-bit-requires : tie.Need-sieve-bit-requires
+sieve-bit-requires c κs = search needs
+
 shl-result : tie.Need-shl-result
 shl-result c = search needs
 
 returns : tie.Need-returns
-returns c = ap (λ (b : ℕ). bitOr (c .args .sieve) b) (bit-made (c .args .key))
+returns c =
+    let a = c .before .args in
+    ap (λ (b : ℕ). bitOr (a .sieve) b) (bit-made (a .key) _ (c .sieve-bit .ensures .0))
 
 pub with-bit-spec : {M : Type 1} → statement M
-with-bit-spec = tie.close (tie.spec shl-result returns)
+with-bit-spec = tie.close (tie.spec sieve-bit-requires shl-result returns)

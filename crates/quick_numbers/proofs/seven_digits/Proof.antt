@@ -1,8 +1,7 @@
 -- `quick_numbers::seven_digits` meets its contract. Assumes nothing.
 use native.Mathlib.Omega.{arith}
-use mathlib.Core.Logic.{⊎-elim}
 use lib.Count.{trailing-le}
-use borrow.Author.Tests.{eqb-false, ltb-false}
+use borrow.Author.Tests.{ltb-false}
 use borrow.Author.Needs.{needs}
 use Rattle.quick_numbers.proofs.Laws.{no-digits}
 use Rattle.quick_numbers.proofs.Seven.{seven-fits}
@@ -35,9 +34,15 @@ returns-2 c =
     let a = c .before .before .before .before .before .before .before .before .before .args in
     no-digits (a .text .now) (a .at) 7
 
+mul-if4 : tie.Need-mul-if4
+mul-if4 c = search needs
+
+add-if4 : tie.Need-add-if4
+add-if4 c = search needs
+
 returns-3 : tie.Need-returns-3
 returns-3 c =
-    let a = c .before .before .before .before .before .before .before .before .before .before .before .args in
+    let a = c .before .before .before .before .before .before .before .before .before .before .args in
     no-digits (a .text .now) (a .at) 7
 
 number-of-requires : tie.Need-number-of-requires
@@ -63,7 +68,7 @@ returns-4 c =
     (y .ensures)
     (o .before .larger-bytes2 .ensures (o .if3 .left))
     (c .number-of .ensures)
-    (λ h e. ⊎-elim (λ w. eqb-false _ _ (w .1 .left) e) (λ w. absurd (omega arith)) (j .if4 .came))
+    (j .if4 .left)
 
 pub seven-digits-spec : {M : Type 1} → statement M
 seven-digits-spec =
@@ -77,6 +82,8 @@ seven-digits-spec =
     moved-up-requires
     larger-bytes-requires-2
     returns-2
+    mul-if4
+    add-if4
     returns-3
     number-of-requires
     returns-4)
