@@ -12,7 +12,8 @@ use Rattle.digits.specs.Digits.{digitsAt}
 use Rattle.numbers.specs.Number.{valueFrom, numberOf}
 use Rattle.cue_lines.specs.CueLine.{fieldsOf}
 use Rattle.tables.specs.Table.{memberOf, insertOf, deleteOf, putOnceOf}
-use Rattle.step_words.specs.Word.{same, wordOf}
+use Rattle.same_bytes.specs.Same.{same}
+use Rattle.step_words.specs.Word.{wordOf}
 use Rattle.answers.specs.declared.Answer.{Answer}
 use Rattle.answers.specs.declared.Answer.the-variants.{Ok, Yes, No, Empty, Cue, Left, Refused}
 use Rattle.scripts.specs.Script.{readFrom, scriptOf}

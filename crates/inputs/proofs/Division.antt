@@ -10,7 +10,7 @@ use lib.Seq.{take-all, take-append-add, drop-append-add}
 use Rattle.lines.specs.Ascii.{bytes}
 use Rattle.lines.specs.Lines.{upTo, linesOf}
 use Rattle.lines.proofs.Laws.{lines-next, lines-end, lines-append, lt-or-ge}
-use Rattle.step_words.proofs.Words.{same-true}
+use Rattle.same_bytes.proofs.Laws.{same-true}
 use Rattle.inputs.specs.Division.{isSteps, stepsPlace, startText, stepList}
 use Rattle.inputs.specs.Theorems.{before, behind, DividedAtSteps}
 use Rattle.inputs.proofs.Texts.{by-lines, lines-one, line-length}

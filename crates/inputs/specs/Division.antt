@@ -6,7 +6,7 @@ use mathlib.Core.List.{List, [], _∷_}
 use lib.ListN.{length, take, drop}
 use Rattle.lines.specs.Ascii.{bytes}
 use Rattle.lines.specs.Lines.{linesOf}
-use Rattle.step_words.specs.Word.{same}
+use Rattle.same_bytes.specs.Same.{same}
 
 abbrev pub isSteps : List ℕ → Bool
 isSteps l = same l (bytes "steps")

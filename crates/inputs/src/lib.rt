@@ -7,10 +7,9 @@ ghost use lib.ListN.{length};
 ghost use Rattle.lines.specs.Lines.{linesOf};
 ghost use Rattle.inputs.specs.Division.{stepsPlace};
 use buffers::fits;
+use lines::LF;
 use lines::find_byte;
-use step_words::same_bytes;
-
-const LF: u8 = 10;
+use same_bytes::same_bytes;
 
 // Where the first line `steps` begins; the end of the input where there is none.
 pub fn find_steps(input: &[u8]) -> usize

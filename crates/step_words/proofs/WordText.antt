@@ -8,8 +8,9 @@ use Rattle.step_words.specs.declared.NumberWord.the-variants.{Begin, Min
 use Rattle.step_words.specs.declared.CueWord.the-variants.{Add, Remove, Has, Push}
 use Rattle.step_words.specs.declared.Word.{Word}
 use Rattle.step_words.specs.declared.Word.the-variants.{WithNumber, WithCue, Unknown}
-use Rattle.step_words.specs.Word.{numberWord, cueWord, same, wordOf}
-use Rattle.step_words.proofs.Words.{same-true}
+use Rattle.step_words.specs.Word.{numberWord, cueWord, wordOf}
+use Rattle.same_bytes.specs.Same.{same}
+use Rattle.same_bytes.proofs.Laws.{same-true}
 
 abbrev pub IsWord : List ℕ → Word → Type 0
 IsWord w (WithNumber k) = w ≡ numberWord k

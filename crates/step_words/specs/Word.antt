@@ -1,9 +1,9 @@
 -- The words of step lines, in small letters. Assumes nothing.
 use Prim.Native.Nat.{ℕ}
-use mathlib.Core.Bool.{Bool, true, false, cond, _&&_}
-use mathlib.Core.List.{List, [], _∷_}
-use lib.Dec.{eqb}
+use mathlib.Core.Bool.{cond}
+use mathlib.Core.List.{List}
 use Rattle.lines.specs.Ascii.{bytes}
+use Rattle.same_bytes.specs.Same.{same}
 use Rattle.step_words.specs.declared.NumberWord.{NumberWord}
 use Rattle.step_words.specs.declared.NumberWord.the-variants.{Begin, Min, Take, Commit, Undo, Back}
 use Rattle.step_words.specs.declared.CueWord.{CueWord}
@@ -25,13 +25,6 @@ cueWord Add = bytes "add"
 cueWord Remove = bytes "remove"
 cueWord Has = bytes "has"
 cueWord Push = bytes "push"
-
--- whether two stretches have the same bytes
-unfoldable pub same : List ℕ → List ℕ → Bool
-same [] [] = true
-same [] (b ∷ v) = false
-same (a ∷ u) [] = false
-same (a ∷ u) (b ∷ v) = eqb a b && same u v
 
 -- the word that the bytes before the first comma are
 unfoldable pub wordOf : List ℕ → Word

@@ -5,7 +5,9 @@
 ghost use mathlib.Core.Path.{_≡_};
 ghost use mathlib.Core.Bool.{cond};
 ghost use lib.ListN.{length};
-ghost use Rattle.step_words.specs.Word.{same, wordOf};
+ghost use Rattle.same_bytes.specs.Same.{same};
+ghost use Rattle.step_words.specs.Word.{wordOf};
+use same_bytes::same_bytes;
 
 // The words of lines `word,e`, as the papers write them.
 pub enum NumberWord {
@@ -29,23 +31,6 @@ pub enum Word {
     WithNumber(NumberWord),
     WithCue(CueWord),
     Unknown,
-}
-
-// Whether two stretches have the same bytes.
-pub fn same_bytes(a: &[u8], b: &[u8]) -> bool
-    ensures { λ r. ⌜ r ≡ same (now (a .entry)) (now (b .entry)) ⌝ }
-{
-    if a.len() != b.len() {
-        return false;
-    }
-    let mut i = 0;
-    while i < a.len() {
-        if a[i] != b[i] {
-            return false;
-        }
-        i += 1;
-    }
-    true
 }
 
 // The word, if the bytes are its text.

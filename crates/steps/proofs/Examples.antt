@@ -12,7 +12,8 @@ use Rattle.steps.specs.declared.reading.Step.{Step}
 use Rattle.steps.specs.declared.reading.Step.the-variants.{WithNumber, WithCue, Malformed}
 use Rattle.step_words.specs.declared.NumberWord.the-variants.{Begin, Min, Take, Commit, Undo, Back}
 use Rattle.step_words.specs.declared.CueWord.the-variants.{Add, Remove, Has, Push}
-use Rattle.step_words.specs.Word.{same, wordOf}
+use Rattle.same_bytes.specs.Same.{same}
+use Rattle.step_words.specs.Word.{wordOf}
 use Rattle.steps.specs.Step.{stepOf}
 
 abbrev cue : ℕ → ℕ → ℕ → CueNumbers

@@ -35,7 +35,8 @@ use Rattle.step_words.specs.declared.Word.{Word}
 use Rattle.step_words.specs.declared.Word.the-variants.{WithNumber as IsNumberWord, WithCue as IsCueWord, Unknown}
 use Rattle.steps.specs.declared.reading.Step.{Step}
 use Rattle.steps.specs.declared.reading.Step.the-variants.{WithNumber, WithCue, Malformed}
-use Rattle.step_words.specs.Word.{numberWord, cueWord, same, wordOf}
+use Rattle.same_bytes.specs.Same.{same}
+use Rattle.step_words.specs.Word.{numberWord, cueWord, wordOf}
 use Rattle.steps.specs.Step.{numbered, cued, stepWith, stepOf}
 use Rattle.steps.specs.StepText.{callText, stepText, NineDigits, NineDigitCall, NineDigitStep}
 use Rattle.steps.specs.Theorems.{StepWriteThenRead, StepReadIsCanonical}

@@ -1,13 +1,13 @@
--- `step_words::same_bytes` meets its contract. The invariant: what is left to compare decides. Assumes nothing.
+-- `same_bytes::same_bytes` meets its contract. The invariant: what is left to compare decides. Assumes nothing.
 use mathlib.Core.Path.{_≡_, sym, _∙_}
 use Prim.Native.Nat.{_-_, _≤_, _<_}
 use native.Mathlib.Omega.{arith}
 use lib.ListN.{length, drop}
 use borrow.Author.Needs.{needs}
-use Rattle.step_words.specs.Word.{same}
-use Rattle.step_words.proofs.Words.{same-more, same-differs, same-end, same-lengths}
-use Rattle.step_words.proofs.same_bytes.Statement.{statement}
-use Rattle.step_words.proofs.same_bytes.Tie as tie
+use Rattle.same_bytes.specs.Same.{same}
+use Rattle.same_bytes.proofs.Laws.{same-more, same-differs, same-end, same-lengths}
+use Rattle.same_bytes.proofs.same_bytes.Statement.{statement}
+use Rattle.same_bytes.proofs.same_bytes.Tie as tie
 
 abbrev Inv-loop : tie.InvT-loop
 Inv-loop a b i₀ i = (length a ≡ length b) × (i ≤ length a) × (same (drop i a) (drop i b) ≡ same a b)

@@ -1,0 +1,2 @@
+-- Laws; the folder beside them holds the proof of the function. Assumes nothing.
+pub mod Laws
