@@ -1,11 +1,12 @@
--- The words of step lines by their codes, the table of what is known of each code, and what a look finds. A look may
--- always say that it is unsure. Assumes nothing.
-use Prim.Native.Nat.{ℕ, zero, suc, _-_, _^_, _<_}
-use mathlib.Core.Path.{_≡_}
+-- The words of step lines by their codes, the table of what is known of each code, and what a look finds.
+-- Assumes nothing.
+use Prim.Native.Nat.{ℕ, zero, suc, _-_, _^_}
+use mathlib.Core.Bool.{Bool, cond}
 use mathlib.Core.List.{List, [], _∷_, _++_}
-use lib.ListN.{length, getD}
+use lib.Dec.{leb}
+use lib.ListN.{length, getD, take}
+use Rattle.same_bytes.specs.Same.{same}
 use Rattle.lines.specs.Ascii.{bytes}
-use Rattle.lines.specs.Standing.{Stands}
 use Rattle.step_words.specs.declared.CueWord.{CueWord}
 use Rattle.step_words.specs.declared.CueWord.the-variants.{Add, Remove, Has, Push}
 use Rattle.step_words.specs.declared.NumberWord.{NumberWord}
@@ -58,6 +59,14 @@ unfoldable pub wordTable : List ℕ
 wordTable = codesFrom codeNumber 0 16 ++ (codesFrom codeMask 0 16 ++ codesFrom codeLength 0 16)
 
 -- ---- what a look finds
-abbrev pub QuickWordFits : List ℕ → ℕ → QuickWord → Type 0
-QuickWordFits s at (Found code) = Stands s at (codeText code) × (code < 16)
-QuickWordFits s at Unsure = Unit {0}
+abbrev pub begins : List ℕ → ℕ → Bool
+begins l c = same (take (length (codeText c)) l) (codeText c)
+
+-- the first of n codes from c up whose text stands at the front
+unfoldable pub firstCode : ℕ → ℕ → List ℕ → QuickWord
+firstCode c zero l = Unsure
+firstCode c (suc n) l = cond (begins l c) (Found c) (firstCode (suc c) n l)
+
+-- the word at the front of at least eight bytes
+abbrev pub wordFound : List ℕ → QuickWord
+wordFound l = cond (leb 8 (length l)) (firstCode 0 10 l) Unsure

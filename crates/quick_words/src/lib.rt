@@ -1,4 +1,5 @@
-// The word of a step line, told at a glance: a guess from its first two bytes, then one comparison of up to eight.
+// The word of a step line, told at a glance: a guess from its first two bytes, then one comparison of up to seven. The
+// guess is right for each of the ten words, so the word that stands is always found.
 //
 // Nothing branches on the word: which one comes next cannot be guessed, and a branch that is guessed wrong costs more
 // than the look itself. So a word is a code, and what is known of each code stands in a table. A constant array is laid
@@ -8,8 +9,8 @@
 // the words with a code below 4 stands a cue.
 ghost use Prim.Native.Nat.{_<_, _≤_};
 ghost use mathlib.Core.Path.{_≡_};
-ghost use lib.ListN.{length};
-ghost use Rattle.quick_words.specs.QuickWord.{codeText, cueCode, numberCode, wordTable, QuickWordFits};
+ghost use lib.ListN.{length, drop};
+ghost use Rattle.quick_words.specs.QuickWord.{codeText, cueCode, numberCode, wordTable, wordFound};
 use buffers::fits;
 use eight_bytes::eight_bytes;
 use step_words::CueWord;
@@ -20,8 +21,8 @@ pub enum QuickWord {
     Unsure,
 }
 
-// The code to try for each of the sixteen slots, four bits each; 0 where no word has the slot. No proof rests on it:
-// a wrong guess finds no word.
+// The code to try for each of the sixteen slots, four bits each; 0 where no word has the slot. The ten words have ten
+// slots, so a word that is not the one tried is none of them.
 const CODES: u64 = 4697342406740150535;
 
 // Of each code: the number of the word's bytes with its comma, then the mask of as many bytes, then how many.
@@ -83,10 +84,10 @@ pub fn word_table() -> [u64; 48]
     WORDS
 }
 
-// The word that stands at a place with its comma. Unsure where eight bytes do not stand there.
+// The word that stands at a place with its comma. Unsure where none of the ten does, or fewer than eight bytes.
 pub fn quick_word(words: &[u64; 48], text: &[u8], at: usize) -> QuickWord
     requires { ⌜ now words ≡ wordTable ⌝ }
-    ensures { λ r. ⌜ QuickWordFits (now (text .entry)) at r ⌝ }
+    ensures { λ r. ⌜ r ≡ wordFound (drop at (now (text .entry))) ⌝ }
 {
     if !fits(text.len(), at, 8) {
         return QuickWord::Unsure;

@@ -24,9 +24,7 @@ use Rattle.step_words.specs.Word.{numberWord, cueWord}
 use Rattle.steps.specs.Step.{stepOf}
 use Rattle.steps.specs.StepText.{callText, stepText, NineDigits, NineDigitCall}
 use Rattle.steps.proofs.Theorems.{step-write-then-read}
-use Rattle.quick_words.specs.declared.QuickWord.{QuickWord}
-use Rattle.quick_words.specs.declared.QuickWord.the-variants.{Found as FoundWord}
-use Rattle.quick_words.specs.QuickWord.{codeText, cueCode, numberCode, QuickWordFits}
+use Rattle.quick_words.specs.QuickWord.{codeText, cueCode, numberCode}
 use Rattle.quick_words.proofs.Laws.{cue-text, number-text}
 use Rattle.quick_numbers.specs.declared.Short.{Short}
 use Rattle.quick_numbers.specs.Short.{ShortFits}
@@ -172,11 +170,6 @@ pub rest-scans : (t s : List ℕ) (at q : ℕ) (r : Quick) → q ≡ at + length
     → QuickFits s at r
 rest-scans t s at q (Found r) e h c = scans s at r (earlier [] t s at q r e h c)
 rest-scans t s at q Unsure e h c = tt
-
--- what the looks found
-pub word-found : (s : List ℕ) (at code : ℕ) (r : QuickWord) → QuickWordFits s at r → r ≡ FoundWord code
-    → Stands s at (codeText code) × (code < 16)
-word-found s at code r f e = rw e at f
 
 pub found-scans : (s : List ℕ) (at : ℕ) (r : Quick) (x : Scanned) → QuickFits s at r → r ≡ Found x → Scans s at x
 found-scans s at r x f e = rw e at f

@@ -1,11 +1,12 @@
 -- `scanning::quick::quick_step` meets its contract: the word stands before the rest of the line. Assumes nothing.
 use Prim.Native.Nat.{ℕ, _+_}
-use mathlib.Core.Path.{_≡_, ap}
+use mathlib.Core.Path.{_≡_, sym, ap, _∙_}
 use native.Mathlib.Omega.{arith}
 use lib.ListN.{length}
 use Rattle.quick_words.specs.QuickWord.{codeText}
+use Rattle.quick_words.proofs.Laws.{word-stands}
 use Rattle.buffers.proofs.Laws.{has-room}
-use Rattle.scanning.proofs.Completing.{word-found, rest-scans}
+use Rattle.scanning.proofs.Completing.{rest-scans}
 use borrow.Author.Needs.{needs}
 use Rattle.scanning.proofs.quick.quick_step.Statement.{statement}
 use Rattle.scanning.proofs.quick.quick_step.Tie as tie
@@ -33,7 +34,8 @@ word-length-requires c κs =
     let k = c .before in
     let w = k .before .before in
     let g = w .before .before .before .before in
-    (g .pre, word-found _ _ _ _ (w .quick-word .ensures) (k .code .given .1) .1)
+    let a = g .args in
+    (g .pre, word-stands (a .text .now) (a .at) _ (sym (w .quick-word .ensures) ∙ k .code .given .1) .1)
 
 add-quick-rest : tie.Need-add-quick-rest
 add-quick-rest c =
@@ -63,7 +65,7 @@ returns-3 c =
     let e : a .at + l .word-length .result ≡ a .at + length (codeText code) =
     ap (λ (n : ℕ). a .at + n) (l .word-length .ensures .0) in
     rest-scans (codeText code) (a .text .now) (a .at) _ (c .quick-rest .result) e
-    (word-found _ _ _ _ (w .quick-word .ensures) (k .code .given .1) .0)
+    (word-stands (a .text .now) (a .at) code (sym (w .quick-word .ensures) ∙ k .code .given .1) .0)
     (c .quick-rest .ensures)
 
 pub quick-step-spec : {M : Type 1} → statement M
