@@ -12,9 +12,9 @@ use lib.Dec.{ltb, leb}
 use lib.ListN.{length, getD, take, drop, length-drop}
 use lib.ListN.{List·getD-map, List·getD-append, List·getD-eq-default}
 use lib.Seq.{getD-drop, getD-append-add, take-take, length-take-le}
-use borrow.Author.Tests.{ltb-true, ltb-false, leb-true, leb-false, le-leb, lt-leb, eq-eqb, not-true}
+use borrow.Author.Tests.{ltb-true, ltb-false, leb-true, leb-false, le-leb, lt-leb, not-true}
 use Rattle.same_bytes.specs.Same.{same}
-use Rattle.same_bytes.proofs.Laws.{same-true}
+use Rattle.same_bytes.proofs.Laws.{same-self, same-true}
 use Rattle.lines.specs.Ascii.{bytes}
 use Rattle.lines.specs.Standing.{Stands}
 use Rattle.step_words.specs.declared.CueWord.the-variants.{Add, Remove, Has, Push}
@@ -185,11 +185,6 @@ byte-power (suc n) =
     let e : 8 * n + 8 ≡ 8 * suc n = omega arith in
     pow-suc 256 n
     ∙ (ap (λ (x : ℕ). x * 256) (byte-power n) ∙ (sym (pow-add 2 (8 * n) 8) ∙ ap (λ (x : ℕ). 2 ^ x) e))
-
-same-self : (t : List ℕ) → same t t ≡ true
-unfolding same
-same-self [] = refl
-same-self (b ∷ t) = rw (eq-eqb b b refl) (same-self t)
 
 -- eight bytes at the front of a list, as one number
 module _ (l : List ℕ) (x : ℕ) (v : x ≡ numberFrom (take 8 l)) (b : AllBytes (take 8 l)) (h : 8 ≤ length l) where

@@ -35,6 +35,11 @@ same-lengths [] (b ∷ v) n = refl
 same-lengths (a ∷ u) [] n = refl
 same-lengths (a ∷ u) (b ∷ v) n = rw (same-lengths u v (λ e. n (ap suc e))) (and-false (eqb a b))
 
+pub same-self : (t : List ℕ) → same t t ≡ true
+unfolding same
+same-self [] = refl
+same-self (b ∷ t) = rw (eq-eqb b b refl) (same-self t)
+
 pub same-true : (u v : List ℕ) → same u v ≡ true → u ≡ v
 unfolding same
 same-true [] [] e = refl
