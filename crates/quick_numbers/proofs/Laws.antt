@@ -1,88 +1,89 @@
--- Laws of a short number: the digits that have been passed, and the digits that stand there. Assumes nothing.
-use Prim.Native.Nat.{ℕ, suc, _+_, _*_, _-_, _/_, _≤_, _<_}
+-- Laws of a short number: the answers of `shortOf`, and the digits that stand there. Assumes nothing.
+use Prim.Native.Nat.{ℕ, _+_, _-_, _/_, _≤_, _<_}
 use mathlib.Core.Path.{_≡_, refl, sym, ap, _∙_}
+use mathlib.Core.Bool.{Bool, true, false, cond}
 use mathlib.Core.List.{List, [], _∷_}
 use mathlib.Core.Logic.{⊎-elim}
 use native.Mathlib.Omega.{arith}
-use lib.ListN.{length, getD, take, drop, length-drop, length-append}
-use lib.Seq.{drop-cons, getD-drop, getD-take, length-take-le}
-use Rattle.numbers.specs.declared.Number.the-variants.{Value}
+use lib.Dec.{leb}
+use lib.ListN.{length, getD, take, drop, length-drop, length-take, length-append}
+use lib.Seq.{length-take-le, take-take}
+use borrow.Author.Tests.{le-leb, lt-leb, leb-true}
+use Rattle.numbers.specs.declared.Number.{Number}
+use Rattle.numbers.specs.declared.Number.the-variants.{Value, Malformed}
 use Rattle.digits.specs.Digits.{digitsOf}
-use Rattle.numbers.specs.Number.{valueFrom}
+use Rattle.numbers.specs.Number.{numberOf}
+use Rattle.numbers.specs.Field.{leading}
 use Rattle.digits.proofs.Laws.{digits-pos, digits-step}
 use Rattle.lines.proofs.Laws.{lt-or-ge}
-use Rattle.numbers.proofs.Laws.{value-more, value-end, number-good}
+use Rattle.numbers.proofs.FieldLaws.{lead-le, number-same}
 use Rattle.numbers.proofs.Theorems.{read-is-canonical}
 use Rattle.records.specs.Record.{fieldText}
 use Rattle.quick_numbers.specs.declared.Short.{Short}
 use Rattle.lines.specs.Standing.{Stands}
-use Rattle.quick_numbers.specs.Short.{ShortFits}
+use Rattle.quick_numbers.specs.Short.{noDigits, shortFrom, shortOf, ShortFits}
 use Rattle.lines.proofs.Standing.{one, join}
 
--- ---- the digits passed
--- i digits with the value n: what stands behind them is read on as what stands from the place on is read
-pub record Passed (s : List ℕ) (at most n i : ℕ) : Type 0 where
-  pub few : i ≤ most
-  pub value : (k : ℕ) → valueFrom n (take k (drop (at + i) s)) ≡ valueFrom 0 (take (i + k) (drop at s))
-
-pub passed-none : (s : List ℕ) (at most : ℕ) → Passed s at most 0 0
-passed-none s at most =
-    let e : at + 0 ≡ at = omega arith in
-    record {
-      few = omega arith;
-      value = λ k. let z : 0 + k ≡ k = omega arith in rw (e, z) refl;
-    }
-
-pub passed-more : (s : List ℕ) (at most n i d : ℕ) → Passed s at most n i → i < most → at + most ≤ length s → d ≤ 9
-    → getD s (at + i) 0 ≡ 48 + d → Passed s at most (n * 10 + d) (i + 1)
-passed-more s at most n i d p h l g e =
-    let a : at + i < length s = omega arith in
-    let j : suc (at + i) ≡ at + (i + 1) = omega arith in
-    let b : 48 + d - 48 ≡ d = omega arith in
-    let next : drop (at + i) s ≡ (48 + d) ∷ drop (at + (i + 1)) s = drop-cons s (at + i) 0 a ∙ rw (e, j) refl in
-    record {
-      few = omega arith;
-      value = λ k.
-          let c : i + suc k ≡ i + 1 + k = omega arith in
-          let v = value-more (48 + d) (take k (drop (at + (i + 1)) s)) n (omega arith) (omega arith) in
-          ap (λ (x : ℕ). valueFrom (n * 10 + x) (take k (drop (at + (i + 1)) s))) (sym b)
-          ∙ (sym v
-          ∙ (ap (λ (x : List ℕ). valueFrom n (take (suc k) x)) (sym next)
-          ∙ (p .value (suc k) ∙ ap (λ (x : ℕ). valueFrom 0 (take x (drop at s))) c)));
-    }
-
--- the first digit alone
-pub passed-one : (s : List ℕ) (at most d : ℕ) → 0 < most → at + most ≤ length s → d ≤ 9 → getD s at 0 ≡ 48 + d
-    → Passed s at most d 1
-passed-one s at most d h l g e =
-    let z : at + 0 ≡ at = omega arith in
-    let v : 0 + d ≡ d = omega arith in
-    rw v at (passed-more s at most 0 0 d (passed-none s at most) h l g (rw z e))
-
-pub passed-all : (s : List ℕ) (at most n i : ℕ) → Passed s at most n i → at + most ≤ length s → most ≤ 9
-    → (1 < i → getD s at 0 ≡ 48 → ⊥) → ShortFits s at most (record { value = n; digits = i })
-passed-all s at most n i p l g f =
-    let few : i ≤ most = p .few in
-    let e : at + 0 ≡ at = omega arith in
-    let z : i + 0 ≡ i = omega arith in
-    let m : length (take i (drop at s)) ≡ i = length-take-le i (drop at s) (omega (arith, length-drop at s)) in
-    let first : 0 < i → getD (take i (drop at s)) 0 0 ≡ getD s at 0 =
-    λ h. getD-take i (drop at s) 0 0 h ∙ (getD-drop at s 0 0 ∙ ap (λ (x : ℕ). getD s x 0) e) in
-    let v : valueFrom 0 (take i (drop at s)) ≡ Value n =
-    ap (λ (x : ℕ). valueFrom 0 (take x (drop at s))) (sym z) ∙ (sym (p .value 0) ∙ value-end [] n refl) in
-    record {
-      few = few;
-      within = λ h. omega arith;
-      number = λ h.
-          number-good (take i (drop at s)) (omega arith) (omega arith)
-          (λ o b. f (omega arith) (sym (first h) ∙ b))
-          ∙ v;
-    }
-
--- no digit, or a number that is refused for its leading zero
-pub no-digits : (s : List ℕ) (at most : ℕ) → ShortFits s at most (record { value = 0; digits = 0 })
+-- ---- the answers of `shortOf`
+no-digits : (s : List ℕ) (at most : ℕ) → ShortFits s at most noDigits
 no-digits s at most =
     record { few = omega arith; within = λ h. absurd (omega arith); number = λ h. absurd (omega arith) }
+
+pub short-text : (most window : ℕ) (l : List ℕ) → length l < window → noDigits ≡ shortOf most window l
+unfolding shortOf
+short-text most window l h = rw (lt-leb window (length l) h) refl
+
+pub short-bad : (most window : ℕ) (l t : List ℕ) → leading (take window l) ≡ t → numberOf t ≡ Malformed
+    → noDigits ≡ shortOf most window l
+unfolding shortOf
+short-bad most window l t e m = rw (e, m) (same (leb window (length l)) (leb (length t) most))
+  where
+    same : (p q : Bool) → noDigits ≡ cond p (cond q noDigits noDigits) noDigits
+    same false q = refl
+    same true false = refl
+    same true true = refl
+
+pub short-many : (most window : ℕ) (l t : List ℕ) → leading (take window l) ≡ t → most < length t
+    → noDigits ≡ shortOf most window l
+unfolding shortOf
+short-many most window l t e h = rw (e, lt-leb (length t) most h) (same (leb window (length l)))
+  where
+    same : (p : Bool) → noDigits ≡ cond p noDigits noDigits
+    same false = refl
+    same true = refl
+
+pub short-good : (most window : ℕ) (l t : List ℕ) (v n : ℕ) → window ≤ length l → leading (take window l) ≡ t
+    → length t ≡ n → n ≤ most → numberOf t ≡ Value v → record { value = v; digits = n } ≡ shortOf most window l
+unfolding shortOf
+short-good most window l t v n w e m h x =
+    let k : length t ≤ most = omega arith in
+    rw (le-leb window (length l) w, e, le-leb (length t) most k, x, m) refl
+
+-- what a caller needs of them
+fits-by : (s t : List ℕ) (at most : ℕ) (p q : Bool) (x : Number) → length t ≤ length (drop at s)
+    → numberOf (take (length t) (drop at s)) ≡ x → leb (length t) most ≡ q
+    → ShortFits s at most (cond p (cond q (shortFrom x (length t)) noDigits) noDigits)
+fits-by s t at most false q x h n e = no-digits s at most
+fits-by s t at most true false x h n e = no-digits s at most
+fits-by s t at most true true Malformed h n e = no-digits s at most
+fits-by s t at most true true (Value v) h n e =
+    record {
+      few = leb-true (length t) most e;
+      within = λ g. omega (arith, length-drop at s);
+      number = λ g. n;
+    }
+
+pub short-fits : (s : List ℕ) (at most window : ℕ) → ShortFits s at most (shortOf most window (drop at s))
+unfolding shortOf
+short-fits s at most window =
+    let l = drop at s in
+    let t = leading (take window l) in
+    let k = lead-le (take window l) in
+    let m = length-take window l in
+    let w : length t ≤ window = omega arith in
+    fits-by s t at most (leb window (length l)) (leb (length t) most) (numberOf t) (omega arith)
+    (ap numberOf (sym (take-take (length t) window l w)) ∙ number-same (take window l) (length t) refl)
+    refl
 
 -- ---- what stands there
 module _ (s : List ℕ) (at most : ℕ) (r : Short) (f : ShortFits s at most r) (some : r .digits ≡ 0 → ⊥) where

@@ -3,3 +3,4 @@ pub mod Digits
 pub mod Folds
 pub mod Laws
 pub mod Seven
+pub mod Two

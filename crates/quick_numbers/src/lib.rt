@@ -1,12 +1,13 @@
 // The short numbers of a step line, read where they stand: of one digit, of one or two, of at most seven.
 //
-// An answer has no digits where the text ends too soon, where no digit stands there, and where a number has a leading
-// zero. No public function has a `requires`.
+// An answer has no digits where the text ends too soon, where no digit stands there, where a number has a leading zero,
+// and where seven digits have another behind them. No public function has a `requires`.
 ghost use mathlib.Core.Path.{_≡_};
-ghost use Prim.Native.Nat.{_+_, _*_, _-_, _%_, _^_, _≤_, _<_};
-ghost use lib.ListN.{length, getD};
-ghost use Rattle.quick_numbers.specs.Bytes.{Digits, folded};
-ghost use Rattle.quick_numbers.specs.Short.{ShortFits};
+ghost use Prim.Native.Nat.{_+_, _*_, _-_, _/_, _%_, _^_, _≤_, _<_};
+ghost use lib.Count.{trailingZeros};
+ghost use lib.ListN.{length, getD, drop};
+ghost use Rattle.quick_numbers.specs.Bytes.{Digits, smallBytes, folded};
+ghost use Rattle.quick_numbers.specs.Short.{shortOf};
 use buffers::fits;
 use eight_bytes::eight_bytes;
 
@@ -40,13 +41,13 @@ fn wide(x: u8) -> u64
 // The digit at a place; above 9 where the byte is none.
 fn digit_at(text: &[u8], i: usize) -> u64
     requires { ⌜ i < length (now text) ⌝ }
-    ensures { λ r. ⌜ (r ≤ 9 → getD (now (text .entry)) i 0 ≡ 48 + r) ⌝ }
+    ensures { λ r. ⌜ (r + 48) % 2 ^ 64 ≡ getD (now (text .entry)) i 0 ⌝ }
 {
     std::num::wrapping_sub_u64(wide(text[i]), 48)
 }
 
 pub fn one_digit(text: &[u8], at: usize) -> Short
-    ensures { λ r. ⌜ ShortFits (now (text .entry)) at 1 r ⌝ }
+    ensures { λ r. ⌜ r ≡ shortOf 1 1 (drop at (now (text .entry))) ⌝ }
 {
     if !fits(text.len(), at, 1) {
         return Short {
@@ -69,7 +70,7 @@ pub fn one_digit(text: &[u8], at: usize) -> Short
 
 // A number of one digit or two. Which of the two cannot be guessed, so nothing branches on it.
 pub fn two_digits(text: &[u8], at: usize) -> Short
-    ensures { λ r. ⌜ ShortFits (now (text .entry)) at 2 r ⌝ }
+    ensures { λ r. ⌜ r ≡ shortOf 2 2 (drop at (now (text .entry))) ⌝ }
 {
     if !fits(text.len(), at, 2) {
         return Short {
@@ -103,9 +104,9 @@ pub fn two_digits(text: &[u8], at: usize) -> Short
     }
 }
 
-// Zero where each of the eight bytes of `z` is at most 9; else its lowest bit stands in the first larger byte.
+// Zero where each of the eight bytes of `z` is at most 9; else its lowest bit is the top bit of the first larger byte.
 fn larger_bytes(z: u64) -> u64
-    ensures { λ r. ⌜ (r ≡ 0 → Digits 8 z) ⌝ }
+    ensures { λ r. ⌜ trailingZeros 64 r / 8 ≡ smallBytes 8 z ⌝ }
 {
     (std::num::wrapping_add_u64(z, EACH_118) | z) & TOP_BITS
 }
@@ -131,7 +132,7 @@ fn number_of(y: u64) -> u64
 // A number of at most seven digits, in eight bytes. How many there are cannot be guessed, so nothing branches on it:
 // the first byte that is no digit tells the count, and with zeros in front there are always eight digits to fold.
 pub fn seven_digits(text: &[u8], at: usize) -> Short
-    ensures { λ r. ⌜ ShortFits (now (text .entry)) at 7 r ⌝ }
+    ensures { λ r. ⌜ r ≡ shortOf 7 8 (drop at (now (text .entry))) ⌝ }
 {
     let z = std::num::wrapping_sub_u64(eight_bytes(text, at), EACH_48);
     let n = (u64::trailing_zeros(larger_bytes(z)) / 8) as usize;
@@ -142,12 +143,6 @@ pub fn seven_digits(text: &[u8], at: usize) -> Short
         };
     }
     let y = moved_up(z, n);
-    if larger_bytes(y) != 0 {
-        return Short {
-            value: 0,
-            digits: 0,
-        };
-    }
     // A first digit 0 allows one digit, any other allows seven: one comparison, as the first digit cannot be guessed.
     if 1 + z % 256 * 9 < n as u64 {
         return Short {

@@ -3,15 +3,18 @@ use Prim.Native.Nat.{ℕ, _+_, _-_, _≤_}
 use mathlib.Core.Path.{_≡_, sym, ap, _∙_}
 use mathlib.Core.List.{List}
 use native.Mathlib.Omega.{arith}
-use lib.ListN.{length, take, drop, length-drop}
-use lib.Seq.{take-take, length-take-le}
+use lib.ListN.{length, take, drop}
+use lib.Seq.{take-take}
 use Rattle.numbers.specs.Number.{numberOf}
 use Rattle.quick_numbers.specs.declared.Short.{Short}
-use Rattle.quick_numbers.specs.Short.{ShortFits}
+use Rattle.quick_numbers.specs.Short.{shortOf, ShortFits}
+use Rattle.quick_numbers.proofs.Laws.{short-fits}
 
-pub in-text : (s : List ℕ) (at end most : ℕ) (r : Short) → at + most ≤ end → end ≤ length s
-    → ShortFits (take (end - at) (drop at s)) 0 most r → ShortFits s at most r
-in-text s at end most r m l f =
+pub in-text : (s : List ℕ) (at end most window : ℕ) (r : Short) → at + most ≤ end → end ≤ length s
+    → r ≡ shortOf most window (take (end - at) (drop at s)) → ShortFits s at most r
+in-text s at end most window r m l e =
+    let part = take (end - at) (drop at s) in
+    let f : ShortFits part 0 most r = rw e (short-fits part 0 most window) in
     let few : r .digits ≤ most = f .few in
     record {
       few = few;

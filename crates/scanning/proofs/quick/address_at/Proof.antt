@@ -24,7 +24,8 @@ two-digits-requires c κs = search needs
 returns : tie.Need-returns
 returns c =
     let a = c .before .before .before .args in
-    in-text (a .text .now) (a .at) (a .at + 2) 2 (c .two-digits .result) (omega arith) (omega arith) (c .two-digits .ensures)
+    in-text (a .text .now) (a .at) (a .at + 2) 2 2 (c .two-digits .result) (omega arith) (omega arith)
+    (c .two-digits .ensures)
 
 pub address-at-spec : {M : Type 1} → statement M
 address-at-spec =

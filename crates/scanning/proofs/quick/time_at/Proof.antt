@@ -24,7 +24,8 @@ seven-digits-requires c κs = search needs
 returns : tie.Need-returns
 returns c =
     let a = c .before .before .before .args in
-    in-text (a .text .now) (a .at) (a .at + 8) 7 (c .seven-digits .result) (omega arith) (omega arith) (c .seven-digits .ensures)
+    in-text (a .text .now) (a .at) (a .at + 8) 7 8 (c .seven-digits .result) (omega arith) (omega arith)
+    (c .seven-digits .ensures)
 
 pub time-at-spec : {M : Type 1} → statement M
 time-at-spec =

@@ -24,7 +24,8 @@ one-digit-requires c κs = search needs
 returns : tie.Need-returns
 returns c =
     let a = c .before .before .before .args in
-    in-text (a .text .now) (a .at) (a .at + 1) 1 (c .one-digit .result) (omega arith) (omega arith) (c .one-digit .ensures)
+    in-text (a .text .now) (a .at) (a .at + 1) 1 1 (c .one-digit .result) (omega arith) (omega arith)
+    (c .one-digit .ensures)
 
 pub transaction-at-spec : {M : Type 1} → statement M
 transaction-at-spec =
