@@ -25,7 +25,7 @@ use Rattle.steps.specs.declared.reading.CueNumbers.{CueNumbers}
 use Rattle.step_words.specs.declared.NumberWord.{NumberWord}
 use Rattle.step_words.specs.declared.CueWord.{CueWord}
 use Rattle.step_words.specs.declared.Word.{Word}
-use Rattle.step_words.specs.declared.Word.the-variants.{WithNumber as numberWord, WithCue as cueWord, Unknown}
+use Rattle.step_words.specs.declared.Word.the-variants.{WithNumber as ofNumber, WithCue as ofCue, Unknown}
 use Rattle.steps.specs.declared.reading.Field.{Field}
 use Rattle.steps.specs.declared.reading.Field.the-variants.{Number as Ended}
 use Rattle.steps.specs.declared.reading.Field.the-variants.{Malformed as NotEnded}
@@ -167,8 +167,8 @@ module _ (w : CueWord) (s : List ℕ) (at : ℕ) where
 -- ---- the word and the rest of the line
 step-nil : (w : Word) → stepWith w [] ≡ Malformed
 unfolding upTo
-step-nil (numberWord w) = rw number-nil
-step-nil (cueWord w) = rw number-nil
+step-nil (ofNumber w) = rw number-nil
+step-nil (ofCue w) = rw number-nil
 step-nil Unknown = refl
 
 pub no-fields : (l : List ℕ) → upTo 44 l ≡ length l → Malformed ≡ stepOf l
@@ -181,13 +181,13 @@ module _ (l : List ℕ) (end : ℕ) (w : Word) (ee : end ≡ 0 + upTo 44 (drop 0
   step-is : stepWith w (drop (end + 1) l) ≡ stepOf l
   step-is = rw (ew, to-end)
 
-  pub with-number : (k : NumberWord) (n : Number) (r : Step) → w ≡ numberWord k
+  pub with-number : (k : NumberWord) (n : Number) (r : Step) → w ≡ ofNumber k
       → n ≡ numberOf (take (length l - (end + 1)) (drop (end + 1) l)) → r ≡ numbered k n → r ≡ stepOf l
   with-number k n r q en er =
       let m : n ≡ numberOf (drop (end + 1) l) = en ∙ ap numberOf (rest-is l (end + 1)) in
       er ∙ (ap (numbered k) m ∙ (ap (λ (x : Word). stepWith x (drop (end + 1) l)) (sym q) ∙ step-is))
 
-  pub with-cue : (k : CueWord) (r : Step) → w ≡ cueWord k → r ≡ callAt k l (end + 1) → r ≡ stepOf l
+  pub with-cue : (k : CueWord) (r : Step) → w ≡ ofCue k → r ≡ callAt k l (end + 1) → r ≡ stepOf l
   with-cue k r q er = er ∙ (ap (λ (x : Word). stepWith x (drop (end + 1) l)) (sym q) ∙ step-is)
 
   pub no-step : w ≡ Unknown → Malformed ≡ stepOf l

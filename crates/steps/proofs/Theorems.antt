@@ -32,7 +32,7 @@ use Rattle.step_words.specs.declared.CueWord.the-variants.{
   Push as push,
 }
 use Rattle.step_words.specs.declared.Word.{Word}
-use Rattle.step_words.specs.declared.Word.the-variants.{WithNumber as IsNumberWord, WithCue as IsCueWord, Unknown}
+use Rattle.step_words.specs.declared.Word.the-variants.{WithNumber as ofNumber, WithCue as ofCue, Unknown}
 use Rattle.steps.specs.declared.reading.Step.{Step}
 use Rattle.steps.specs.declared.reading.Step.the-variants.{WithNumber, WithCue, Malformed}
 use Rattle.same_bytes.specs.Same.{same}
@@ -93,8 +93,8 @@ by-cue l k (Value n) (Numbers t m p) w v e some =
 
 by-word : (l : List ℕ) (w : Word) → IsWord (field l) w → (stepWith w (others l) ≡ Malformed → ⊥)
     → Canonical l (stepWith w (others l))
-by-word l (IsNumberWord k) e some = by-number l k (numberOf (others l)) e refl some
-by-word l (IsCueWord k) e some =
+by-word l (ofNumber k) e some = by-number l k (numberOf (others l)) e refl some
+by-word l (ofCue k) e some =
     by-cue l k (numberOf (field (others l))) (fieldsOf (others (others l))) e refl refl some
 by-word l Unknown e some = absurd (some refl)
 

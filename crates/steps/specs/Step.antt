@@ -18,7 +18,7 @@ use Rattle.steps.specs.declared.reading.CueNumbers.{CueNumbers}
 use Rattle.step_words.specs.declared.NumberWord.{NumberWord}
 use Rattle.step_words.specs.declared.CueWord.{CueWord}
 use Rattle.step_words.specs.declared.Word.{Word}
-use Rattle.step_words.specs.declared.Word.the-variants.{WithNumber as numberWord, WithCue as cueWord, Unknown}
+use Rattle.step_words.specs.declared.Word.the-variants.{WithNumber as ofNumber, WithCue as ofCue, Unknown}
 use Rattle.steps.specs.declared.reading.Step.{Step}
 use Rattle.steps.specs.declared.reading.Step.the-variants.{WithNumber, WithCue, Malformed}
 
@@ -35,8 +35,8 @@ cued w NoNumber cue = Malformed
 
 -- the word, and what stands behind its comma
 abbrev pub stepWith : Word → List ℕ → Step
-stepWith (numberWord w) rest = numbered w (numberOf rest)
-stepWith (cueWord w) rest = cued w (numberOf (field rest)) (fieldsOf (others rest))
+stepWith (ofNumber w) rest = numbered w (numberOf rest)
+stepWith (ofCue w) rest = cued w (numberOf (field rest)) (fieldsOf (others rest))
 stepWith Unknown rest = Malformed
 
 -- the step of a line without its LF
