@@ -4,19 +4,21 @@ use Prim.Native.Nat.{ℕ, zero, suc, _+_, _*_, _-_, _/_, _%_, _^_, _≤_, _<_}
 use mathlib.Core.Path.{_≡_, refl, sym, ap, ap₂, _∙_}
 use mathlib.Core.Bool.{Bool, true, false, _&&_, not, cond}
 use mathlib.Core.List.{List, [], _∷_, _++_}
+use mathlib.Core.Logic.{⊎-elim}
 use native.Mathlib.Nat.{pow-suc, le-of-suc-le-suc, not-suc-le-zero}
 use native.Mathlib.Omega.{arith}
 use lib.Bits.{bitAnd, and-mask}
 use lib.Pow.{pow-add}
 use lib.Dec.{ltb, leb}
 use lib.ListN.{length, getD, take, drop, length-drop}
-use lib.ListN.{List·getD-map, List·getD-append, List·getD-eq-default}
-use lib.Seq.{getD-drop, getD-append-add, take-take, length-take-le}
-use borrow.Author.Tests.{ltb-true, ltb-false, leb-true, leb-false, le-leb, lt-leb, not-true}
+use lib.ListN.{List·getD-append, List·getD-eq-default}
+use lib.Seq.{getD-append-add, take-take, length-take-le}
+use borrow.Author.Tests.{ltb-true, ltb-false, lt-ltb, le-ltb, leb-true, leb-false, le-leb, lt-leb, not-true}
 use Rattle.same_bytes.specs.Same.{same}
 use Rattle.same_bytes.proofs.Laws.{same-self, same-true}
-use Rattle.lines.specs.Ascii.{bytes}
 use Rattle.lines.specs.Standing.{Stands}
+use Rattle.lines.proofs.Laws.{lt-or-ge}
+use Rattle.step_words.specs.declared.CueWord.{CueWord}
 use Rattle.step_words.specs.declared.CueWord.the-variants.{Add, Remove, Has, Push}
 use Rattle.step_words.specs.declared.NumberWord.{NumberWord}
 use Rattle.step_words.specs.declared.NumberWord.the-variants.{Min, Take, Begin, Commit, Undo, Back}
@@ -25,31 +27,18 @@ use Rattle.eight_bytes.specs.Eight.{numberFrom, AllBytes, EightFit}
 use Rattle.eight_bytes.proofs.Laws.{eight-value, low-bytes, number-take}
 use Rattle.quick_words.specs.declared.QuickWord.{QuickWord}
 use Rattle.quick_words.specs.declared.QuickWord.the-variants.{Found, Unsure}
-use Rattle.quick_words.specs.QuickWord.{codeTexts, codeText, cueCode, numberCode}
+use Rattle.quick_words.specs.QuickWord.{codeText, cueCode, numberCode}
 use Rattle.quick_words.specs.QuickWord.{codesFrom, codeNumber, codeMask, codeLength, wordTable}
 use Rattle.quick_words.specs.QuickWord.{begins, firstCode, wordFound}
 
 -- ---- the text of each code's word
 pub cue-text : (c : ℕ) → c < 4 → codeText c ≡ cueWord (cueCode c) ++ (44 ∷ [])
-unfolding codeText cueCode
-cue-text zero h = refl
-cue-text (suc zero) h = refl
-cue-text (suc (suc zero)) h = refl
-cue-text (suc (suc (suc zero))) h = refl
-cue-text (suc (suc (suc (suc c)))) h = absurd (omega arith)
+unfolding codeText
+cue-text c h = rw (lt-ltb c 4 h) refl
 
 pub number-text : (c : ℕ) → 4 ≤ c → codeText c ≡ numberWord (numberCode c) ++ (44 ∷ [])
-unfolding codeText numberCode
-number-text c h =
-    let e : c ≡ 4 + (c - 4) = omega arith in
-    ap (λ (x : ℕ). getD codeTexts x (bytes "back,")) e
-    ∙ (sym (getD-drop 4 codeTexts (c - 4) (bytes "back,"))
-    ∙ List·getD-map (λ (w : NumberWord). numberWord w ++ (44 ∷ [])) (Min ∷ Take ∷ Begin ∷ Commit ∷ Undo ∷ []) (c - 4)
-    Back)
-
-code-back : (c : ℕ) → 9 ≤ c → codeText c ≡ codeText 9
 unfolding codeText
-code-back c h = List·getD-eq-default codeTexts (bytes "back,") h
+number-text c h = rw (le-ltb c 4 h) refl
 
 -- the last case of each match, and the first of the second
 pub cue-other : (c : ℕ) → 3 ≤ c → Push ≡ cueCode c
@@ -66,6 +55,12 @@ number-other c h =
     let l : 5 ≤ c - 4 = omega arith in
     sym (List·getD-eq-default (Min ∷ Take ∷ Begin ∷ Commit ∷ Undo ∷ []) Back l)
 
+code-back : (c : ℕ) → 9 ≤ c → codeText c ≡ codeText 9
+code-back c h =
+    let n : numberCode c ≡ numberCode 9 = sym (number-other c h) ∙ number-other 9 (omega arith) in
+    number-text c (omega arith)
+    ∙ (ap (λ (w : NumberWord). numberWord w ++ (44 ∷ [])) n ∙ sym (number-text 9 (omega arith)))
+
 -- ---- each text has from two to seven bytes
 abbrev bytesTest : List ℕ → Bool
 bytesTest [] = true
@@ -73,10 +68,6 @@ bytesTest (b ∷ l) = ltb b 256 && bytesTest l
 
 abbrev textTest : List ℕ → Bool
 textTest t = bytesTest t && (leb 2 (length t) && leb (length t) 7)
-
-abbrev textsTest : List (List ℕ) → Bool
-textsTest [] = true
-textsTest (t ∷ l) = textTest t && textsTest l
 
 both : (a b : Bool) → a && b ≡ true → (a ≡ true) × (b ≡ true)
 both true b e = (refl, e)
@@ -87,15 +78,26 @@ all-bytes [] e = tt
 all-bytes (b ∷ l) e =
     let p = both (ltb b 256) (bytesTest l) e in (ltb-true b 256 (p .0), all-bytes l (p .1))
 
-tested : (l : List (List ℕ)) (d : List ℕ) → textsTest l ≡ true → textTest d ≡ true
-    → (c : ℕ) → textTest (getD l c d) ≡ true
-tested [] d e f c = f
-tested (t ∷ l) d e f zero = both (textTest t) (textsTest l) e .0
-tested (t ∷ l) d e f (suc c) = tested l d (both (textTest t) (textsTest l) e .1) f c
+cue-tested : (w : CueWord) → textTest (cueWord w ++ (44 ∷ [])) ≡ true
+cue-tested Add = refl
+cue-tested Remove = refl
+cue-tested Has = refl
+cue-tested Push = refl
+
+number-tested : (w : NumberWord) → textTest (numberWord w ++ (44 ∷ [])) ≡ true
+number-tested Min = refl
+number-tested Take = refl
+number-tested Begin = refl
+number-tested Commit = refl
+number-tested Undo = refl
+number-tested Back = refl
 
 code-tested : (c : ℕ) → textTest (codeText c) ≡ true
-unfolding codeText
-code-tested c = tested codeTexts (bytes "back,") refl refl c
+code-tested c =
+    ⊎-elim
+    (λ h. rw (cue-text c h) (cue-tested (cueCode c)))
+    (λ h. rw (number-text c h) (number-tested (numberCode c)))
+    (lt-or-ge c 4)
 
 pub code-bytes : (c : ℕ) → AllBytes (codeText c)
 code-bytes c = all-bytes (codeText c) (both (bytesTest (codeText c)) _ (code-tested c) .0)

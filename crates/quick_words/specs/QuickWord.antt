@@ -3,41 +3,29 @@
 use Prim.Native.Nat.{ℕ, zero, suc, _-_, _^_}
 use mathlib.Core.Bool.{Bool, cond}
 use mathlib.Core.List.{List, [], _∷_, _++_}
-use lib.Dec.{leb}
+use lib.Dec.{ltb, leb}
 use lib.ListN.{length, getD, take}
 use Rattle.same_bytes.specs.Same.{same}
-use Rattle.lines.specs.Ascii.{bytes}
 use Rattle.step_words.specs.declared.CueWord.{CueWord}
 use Rattle.step_words.specs.declared.CueWord.the-variants.{Add, Remove, Has, Push}
 use Rattle.step_words.specs.declared.NumberWord.{NumberWord}
 use Rattle.step_words.specs.declared.NumberWord.the-variants.{Min, Take, Begin, Commit, Undo, Back}
+use Rattle.step_words.specs.Word.{numberWord, cueWord}
 use Rattle.eight_bytes.specs.Eight.{numberFrom}
 use Rattle.quick_words.specs.declared.QuickWord.{QuickWord}
 use Rattle.quick_words.specs.declared.QuickWord.the-variants.{Found, Unsure}
 
 -- ---- the words by their codes
--- the texts of the codes below 9, each with its comma
-abbrev pub codeTexts : List (List ℕ)
-codeTexts =
-    bytes "add,"
-    ∷ bytes "remove,"
-    ∷ bytes "has,"
-    ∷ bytes "push,"
-    ∷ bytes "min,"
-    ∷ bytes "take,"
-    ∷ bytes "begin,"
-    ∷ bytes "commit,"
-    ∷ bytes "undo,"
-    ∷ []
-
-unfoldable pub codeText : ℕ → List ℕ
-codeText c = getD codeTexts c (bytes "back,")
-
+-- below 4 those with a cue behind them
 unfoldable pub cueCode : ℕ → CueWord
 cueCode c = getD (Add ∷ Remove ∷ Has ∷ []) c Push
 
 unfoldable pub numberCode : ℕ → NumberWord
 numberCode c = getD (Min ∷ Take ∷ Begin ∷ Commit ∷ Undo ∷ []) (c - 4) Back
+
+-- the text of a code's word, with its comma (44)
+unfoldable pub codeText : ℕ → List ℕ
+codeText c = cond (ltb c 4) (cueWord (cueCode c)) (numberWord (numberCode c)) ++ (44 ∷ [])
 
 -- ---- the table
 -- what f says of n codes from c up

@@ -3,7 +3,6 @@ use mathlib.Core.Path.{_≡_, refl}
 use mathlib.Core.Bool.{Bool, true, false, cond}
 use mathlib.Core.List.{List}
 use Prim.Native.Nat.{ℕ}
-use Rattle.lines.specs.Ascii.{bytes}
 use Rattle.step_words.specs.declared.NumberWord.the-variants.{Begin, Min, Take, Commit, Undo, Back}
 use Rattle.step_words.specs.declared.CueWord.the-variants.{Add, Remove, Has, Push}
 use Rattle.step_words.specs.declared.Word.{Word}
@@ -21,16 +20,16 @@ IsWord w Unknown = Unit {0}
 pub is-word : (w : List ℕ) → IsWord w (wordOf w)
 unfolding wordOf
 is-word w =
-    pick (bytes "begin") (WithNumber Begin) _ (λ e. e)
-    (pick (bytes "add") (WithCue Add) _ (λ e. e)
-    (pick (bytes "remove") (WithCue Remove) _ (λ e. e)
-    (pick (bytes "has") (WithCue Has) _ (λ e. e)
-    (pick (bytes "push") (WithCue Push) _ (λ e. e)
-    (pick (bytes "min") (WithNumber Min) _ (λ e. e)
-    (pick (bytes "take") (WithNumber Take) _ (λ e. e)
-    (pick (bytes "commit") (WithNumber Commit) _ (λ e. e)
-    (pick (bytes "undo") (WithNumber Undo) _ (λ e. e)
-    (pick (bytes "back") (WithNumber Back) Unknown (λ e. e) tt)))))))))
+    pick (numberWord Begin) (WithNumber Begin) _ (λ e. e)
+    (pick (cueWord Add) (WithCue Add) _ (λ e. e)
+    (pick (cueWord Remove) (WithCue Remove) _ (λ e. e)
+    (pick (cueWord Has) (WithCue Has) _ (λ e. e)
+    (pick (cueWord Push) (WithCue Push) _ (λ e. e)
+    (pick (numberWord Min) (WithNumber Min) _ (λ e. e)
+    (pick (numberWord Take) (WithNumber Take) _ (λ e. e)
+    (pick (numberWord Commit) (WithNumber Commit) _ (λ e. e)
+    (pick (numberWord Undo) (WithNumber Undo) _ (λ e. e)
+    (pick (numberWord Back) (WithNumber Back) Unknown (λ e. e) tt)))))))))
   where
     by-test : (b : Bool) (x y : Word) → (b ≡ true → IsWord w x) → IsWord w y → IsWord w (cond b x y)
     by-test true x y this that = this refl

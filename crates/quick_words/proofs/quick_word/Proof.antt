@@ -4,7 +4,7 @@ use mathlib.Core.Path.{refl}
 use lib.ListN.{length}
 use borrow.Author.Needs.{needs}
 use Rattle.buffers.proofs.Laws.{has-room}
-use Rattle.quick_words.specs.QuickWord.{codeText, codesFrom}
+use Rattle.quick_words.specs.QuickWord.{cueCode, numberCode, codeText, codesFrom}
 use Rattle.quick_words.proofs.Laws.{word-is, word-not, word-short}
 use Rattle.quick_words.proofs.quick_word.Statement.{statement}
 use Rattle.quick_words.proofs.quick_word.Tie as tie
@@ -46,7 +46,7 @@ element-copy-out-if2-2 : tie.Need-element-copy-out-if2-2
 element-copy-out-if2-2 c = search needs
 
 returns-2 : tie.Need-returns-2
-unfolding codeText codesFrom
+unfolding cueCode numberCode codeText codesFrom
 returns-2 c =
     let x = c .before .before .before in
     let f = x .before .before in
@@ -56,7 +56,7 @@ returns-2 c =
     word-not (s .args .words .now) (s .pre) _ refl t (s .args .at) _ (x .eight-bytes .ensures) h (c .if2 .taken)
 
 returns-3 : tie.Need-returns-3
-unfolding codeText codesFrom
+unfolding cueCode numberCode codeText codesFrom
 returns-3 c =
     let x = c .before .before .before in
     let f = x .before .before in
