@@ -2,8 +2,8 @@
 // line ends.
 //
 // Most lines have a plain form, which `quick` reads in one pass, without looking for their end first. Any other line is
-// found first and then read. Any text and any place will do; the table of words is asked to be the one it is
-// (`quick_words::word_table`), which the caller takes once.
+// found first and then read. Any text and any place will do; the table of words has to be `quick_words::word_table()`,
+// which the caller takes once.
 mod quick;
 
 ghost use mathlib.Core.Path.{_≡_};
