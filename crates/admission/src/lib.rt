@@ -3,6 +3,8 @@
 // The store is read where it stands (`store_words`) and nothing is changed. The search for a lock in the way
 // (`conflicts`) and the count of slots (`slots`) come last, as the rows do; a `requires` asks for what opening and
 // stepping establish of the words.
+#![tactic(auto)]
+
 ghost use Rattle.std.specs.Prelude.{◌≡◌, ◌≤◌};
 ghost use Rattle.tables.specs.Table.{Ordered, member_of};
 ghost use Rattle.boosting.specs.Object.{reply};

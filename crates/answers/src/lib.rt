@@ -1,6 +1,8 @@
 // Answers to steps, written: the line that is printed for each.
 //
 // A line is written whole, with its LF, or not at all. No public function has a `requires`.
+#![tactic(auto)]
+
 ghost use Rattle.std.specs.Prelude.{◌≡◌, length};
 ghost use Rattle.buffers.specs.Written.{written_at};
 ghost use Rattle.answers.specs.Answer.{refusal_text, answer_text, WordAlone};

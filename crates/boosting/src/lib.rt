@@ -3,3 +3,4 @@
 // `specs/` says what the desk means, in the order of document 01, in definitions that compute; the three terms of
 // acceptance are theorems about it, over raw lines of bytes. The code of the crates above only has to equal this
 // model. The method is transactional boosting (document 004): abstract locks, a log of inverses, undo in reverse.
+#![tactic(auto)]

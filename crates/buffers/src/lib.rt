@@ -4,6 +4,8 @@
 // stand at the place asked for and the answer is the place behind them; where they do not fit, the
 // answer is refusal 14 and every byte of the buffer stays. Bytes beside the text always stay.
 // No public function has a `requires`.
+#![tactic(auto)]
+
 ghost use Rattle.std.specs.Prelude.{◌≡◌, ◌+◌, ◌≤◌, nat_le, length};
 ghost use Rattle.std.proofs.lemmas.List.Edits.{sets};
 ghost use Rattle.buffers.specs.Written.{written_at};

@@ -2,6 +2,8 @@
 //
 // Each function does to the lent words what the model's plain operation does to the script and the queue that they
 // show. A `requires` asks for what opening and stepping establish, and for the room that the model's rows have found.
+#![tactic(auto)]
+
 ghost use Rattle.std.specs.Prelude.{◌≡◌, if◌then◌else◌};
 ghost use Rattle.boosting.specs.Object.{is_yes, is_no, least, effect, reply, answer_of};
 ghost use Rattle.boosting.specs.Undo.{entry_of, on_yes, on_cue};
@@ -18,7 +20,7 @@ use store_words::Call;
 use undo_logs::{Entry, Newest};
 
 // What a call is answered; a cue by its key.
-#[derive(Drop)]
+#[derive(Clone, Copy)]
 pub enum Reply {
     Yes,
     No,

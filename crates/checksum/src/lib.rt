@@ -1,5 +1,7 @@
 // The checksum of a text, which document 01 calls its stamp. Sums that run past the top of a u32
 // start again from zero.
+#![tactic(auto)]
+
 mod weights; // weights.rt: the weight of each byte
 
 ghost use Rattle.std.specs.Prelude.{◌≡◌, ◌*◌, ◌%◌, ◌^◌};

@@ -3,6 +3,8 @@
 //
 // They are written into a lent buffer, whole or not at all. A `requires` asks for what opening and stepping establish
 // of the store's words, and for nothing of the buffer.
+#![tactic(auto)]
+
 ghost use Rattle.std.specs.Prelude.{◌≡◌, ◌+◌, ◌≤◌, length};
 ghost use Rattle.buffers.specs.Put.{Put};
 ghost use Rattle.buffers.specs.Written.{written_at};

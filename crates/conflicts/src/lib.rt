@@ -2,6 +2,8 @@
 //
 // The eight records are read where they stand (`store_words`) and nothing is changed. A `requires` asks for what
 // opening and stepping establish of them.
+#![tactic(auto)]
+
 ghost use Rattle.std.specs.Prelude.{◌≡◌, map, ◌+◌, ◌≤◌, drop};
 ghost use Rattle.boosting.specs.Locks.{cue_lock};
 ghost use Rattle.boosting.specs.Store.{blocker};

@@ -2,6 +2,8 @@
 //
 // Each function does to the keys what `tables/specs` says, and keeps the count. A `requires` asks for what opening and
 // stepping establish: a count within the capacity, keys in order, and room where a key comes in.
+#![tactic(auto)]
+
 ghost use Rattle.std.specs.Prelude.{◌≡◌, not, ◌≤◌, length};
 ghost use Rattle.tables.specs.Table.{Ordered, member_of, insert_of, delete_of, put_once_of};
 ghost use Rattle.boosting.specs.Object.{tail};

@@ -2,16 +2,24 @@
 // line for each step, then the script and the queue after recovery; or the one line `start,n,line` of a refused start.
 //
 // One byte more than an input may have is read, so that a longer input is told apart. The output always fits.
-use buffers::Written;
-use libc::{STDIN_FILENO, STDOUT_FILENO};
-use session::{ROOM, run_session};
+#![tactic(auto)]
 
-fn main() {
-    let mut input = [0u8; 65537];
-    let count = io::read_full(STDIN_FILENO, &mut input);
-    let mut output = [0u8; ROOM];
-    let written = run_session(&mut output, &input[..count]);
+use buffers::Written;
+use session::{ROOM, run_session};
+use std::io::{self, Read, Write};
+
+// Apart from `main`, so that the bytes of a buffer of that length stay out of its proof.
+fn run<R: Input + Print + AllocGlobal>(rt: &R, output: &mut [u8]) -> io::Result<()> {
+    let mut input = Vec::new(rt.alloc());
+    rt.reader().take(65537).read_to_end(&mut input)?;
+    let written = run_session(output, &input);
     if let Written::Upto(end) = written {
-        io::write_all(STDOUT_FILENO, &output[..end]);
+        io::writer(rt).write_all(&output[..end])?;
     }
+    Ok(())
+}
+
+fn main(rt: HostRuntime) -> io::Result<()> {
+    let mut output = vec![in rt.alloc(); 0u8; ROOM]?;
+    run(&rt, &mut output)
 }

@@ -3,16 +3,19 @@
 //
 // One byte more than a script text may have is read, so that a longer input is told apart. The report
 // never needs more than 3,584 bytes.
+#![tactic(auto)]
+
 use buffers::Written;
 use formatting::write_report;
-use libc::{STDIN_FILENO, STDOUT_FILENO};
+use std::io::{self, Read, Write};
 
-fn main() {
-    let mut input = [0u8; 65537];
-    let count = io::read_full(STDIN_FILENO, &mut input);
+fn main(rt: HostRuntime) -> io::Result<()> {
+    let mut input = Vec::new(rt.alloc());
+    rt.reader().take(65537).read_to_end(&mut input)?;
     let mut output = [0u8; 3584];
-    let written = write_report(&mut output, &input[..count]);
+    let written = write_report(&mut output, &input);
     if let Written::Upto(end) = written {
-        io::write_all(STDOUT_FILENO, &output[..end]);
+        io::writer(&rt).write_all(&output[..end])?;
     }
+    Ok(())
 }

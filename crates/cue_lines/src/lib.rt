@@ -1,6 +1,8 @@
 // Cue lines: the cue that a line `time,module,pin`, without its LF, stands for.
 //
 // What a cue is, and its ranges, is in `cues`; its line is written in `cue_texts`. No public function has a `requires`.
+#![tactic(auto)]
+
 ghost use Rattle.std.specs.Prelude.{◌≡◌, true};
 ghost use Rattle.cues.specs.Cue.{in_range};
 ghost use Rattle.cue_lines.specs.CueLine.{fields_of, cue_line_of};

@@ -1,34 +1,36 @@
 // Stamps a text: reads all of standard input, of any length, and prints its checksum and LF.
 //
 // The input is read in pieces; the checksum of a text does not depend on how it is cut.
+#![tactic(auto)]
+
 use buffers::Written;
 use checksum::checksum_from;
-use libc::{STDIN_FILENO, STDOUT_FILENO};
 use records::write_field;
+use std::io::{self, Read, Write};
 
-// A proved loop has to end, and nothing says that the input does. So the loop counts its turns down, from a
-// number that no run uses up.
-fn stamp_input() -> u32 {
-    let mut space = io::large_buffer();
-    let piece: &mut [u8] = &mut space;
+// A proved loop has to end, and nothing says that the input does. So the loop counts its turns, up to a number that
+// no run reaches.
+fn stamp_input<R: Input + AllocGlobal>(rt: &R) -> io::Result<u32> {
+    let mut reader = rt.reader();
+    let mut piece = Vec::new(rt.alloc());
     let mut sum: u32 = 0;
-    let mut turns = u64::MAX;
-    while turns > 0 {
-        let count = io::read_full(STDIN_FILENO, piece);
+    for _ in 0..u64::MAX {
+        piece.clear();
+        let count = reader.by_ref().take(65536).read_to_end(&mut piece)?;
         if count == 0 {
-            return sum;
+            break;
         }
-        sum = checksum_from(sum, &piece[..count]);
-        turns -= 1;
+        sum = checksum_from(sum, &piece);
     }
-    sum
+    Ok(sum)
 }
 
-fn main() {
-    let sum = stamp_input();
+fn main(rt: HostRuntime) -> io::Result<()> {
+    let sum = stamp_input(&rt)?;
     let mut output = [0u8; 16];
     let written = write_field(&mut output, 0, sum as u64, b'\n');
     if let Written::Upto(end) = written {
-        io::write_all(STDOUT_FILENO, &output[..end]);
+        io::writer(&rt).write_all(&output[..end])?;
     }
+    Ok(())
 }

@@ -2,6 +2,8 @@
 //
 // What a cue is, and its ranges, is in `cues`; what a line stands for is in `cue_lines`. No public function has a
 // `requires`.
+#![tactic(auto)]
+
 ghost use Rattle.std.specs.Prelude.{◌≡◌, ◌+◌, ◌≤◌, length};
 ghost use Rattle.std.proofs.lemmas.List.Edits.{sets};
 ghost use Rattle.buffers.specs.Written.{written_at};

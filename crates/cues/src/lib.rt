@@ -3,10 +3,12 @@
 // Outside a table a cue is the record `Cue`; inside one it is a single number, its key, which keeps
 // the order of cues, so that equality and order are one comparison. No public function has a `requires`.
 // The lines that stand for cues are in `cue_lines`.
+#![tactic(auto)]
+
 ghost use Rattle.std.specs.Prelude.{◌≡◌};
 ghost use Rattle.cues.specs.Cue.{in_range, key_of, cue_of};
 
-#[derive(Drop)]
+#[derive(Clone, Copy)]
 pub struct Cue {
     pub time: u32,
     pub module: u8,

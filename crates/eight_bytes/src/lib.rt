@@ -1,6 +1,8 @@
 // Eight bytes of a text as one number, so that they are read and compared at once.
 //
 // The compiler makes one load of the eight. The public function has no `requires`.
+#![tactic(auto)]
+
 ghost use Rattle.std.specs.Prelude.{◌+◌, ◌≤◌, ◌<◌, ◌≡◌, length};
 ghost use Rattle.eight_bytes.specs.Eight.{FourFit, EightFit};
 

@@ -1,7 +1,6 @@
-// The functions that tests and benchmarks call from Rust, under C names.
-//
-// A slice passes as a pointer and a length. Nothing checks a foreign declaration against this file, so
-// the boundary is kept to numbers and bytes.
+// What tests and benchmarks call from Rust: numbers and bytes alone. `exports_c` gives these functions their C names.
+#![tactic(auto)]
+
 ghost use Rattle.std.specs.Prelude.{◌≡◌};
 ghost use Rattle.checksum.specs.Checksum.{checksum_from};
 ghost use Rattle.formatting.specs.Format.{report_of};
@@ -25,8 +24,7 @@ fn answer_number(written: Written) -> u64
 
 // Writes what `cue_format` prints of a text to the front of the buffer, and answers how many bytes that is; a buffer
 // that is too short stays as it was, and the answer is the refusal's number above 2^32.
-#[unsafe(no_mangle)]
-pub extern "C" fn lizkorpe_format(text: &[u8], buf: &mut [u8]) -> u64
+pub fn lizkorpe_format(text: &[u8], buf: &mut [u8]) -> u64
     ensures { (result, buf.new) ≡ exported (report_of text.now) buf.old }
 {
     answer_number(write_report(buf, text))
@@ -34,16 +32,14 @@ pub extern "C" fn lizkorpe_format(text: &[u8], buf: &mut [u8]) -> u64
 
 // Writes what `cue_desk` prints of an input to the front of the buffer, and answers as `lizkorpe_format` does. A
 // buffer of 659,860 bytes is never too short.
-#[unsafe(no_mangle)]
-pub extern "C" fn lizkorpe_desk(input: &[u8], buf: &mut [u8]) -> u64
+pub fn lizkorpe_desk(input: &[u8], buf: &mut [u8]) -> u64
     ensures { (result, buf.new) ≡ exported (output_of input.now) buf.old }
 {
     answer_number(run_session(buf, input))
 }
 
 // The checksum of a text, continued from an earlier one.
-#[unsafe(no_mangle)]
-pub extern "C" fn lizkorpe_checksum(before: u32, text: &[u8]) -> u32
+pub fn lizkorpe_checksum(before: u32, text: &[u8]) -> u32
     ensures { result ≡ checksum_from before text.now }
 {
     checksum_from(before, text)

@@ -2,6 +2,8 @@
 //
 // The normal form is that of `script_texts`. It is written whole or not at all, and bytes beside it stay. No public
 // function has a `requires`.
+#![tactic(auto)]
+
 ghost use Rattle.std.specs.Prelude.{◌≡◌};
 ghost use Rattle.buffers.specs.Written.{written_at};
 ghost use Rattle.formatting.specs.Format.{format_of, report_of};

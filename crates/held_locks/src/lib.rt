@@ -3,6 +3,8 @@
 // The transaction is in its 64 lent words (`transactions`, specs/View), and no word is altered here. A `requires` asks
 // for what opening and stepping establish: that the counts are in range, and that the sieve has the bit of each cue
 // lock.
+#![tactic(auto)]
+
 ghost use Rattle.std.specs.Prelude.{◌≡◌, false, not, ◌||◌, nat_eq};
 ghost use Rattle.tables.specs.Table.{member_of};
 ghost use Rattle.boosting.specs.Locks.{conflicts};

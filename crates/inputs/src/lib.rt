@@ -1,6 +1,8 @@
 // The program's input, divided at its first line `steps`: the start script before it, the step list behind it.
 //
 // Both parts are read where they stand, so a division is two places of the input. No public function has a `requires`.
+#![tactic(auto)]
+
 ghost use Rattle.std.specs.Prelude.{◌≡◌, ◌+◌, min, length};
 ghost use Rattle.lines.specs.Lines.{lines_of};
 ghost use Rattle.inputs.specs.Division.{steps_place};

@@ -4,6 +4,8 @@
 // Here a place in the text is a plain number. `line_reader` keeps the text and its place in one record, and
 // `numbered_lines` finds a line of two texts by its number. No public function has a `requires`, and the crate assumes
 // nothing of its own.
+#![tactic(auto)]
+
 ghost use Rattle.std.specs.Prelude.{◌≡◌, ◌+◌, ◌≤◌, max, length, drop};
 ghost use Rattle.lines.specs.Lines.{up_to};
 ghost use Rattle.lines.specs.Line.{line_at};
@@ -12,7 +14,7 @@ ghost use Rattle.lines.specs.Line.{line_at};
 pub const LF: u8 = 10;
 
 // What reading a line at a place finds.
-#[derive(Drop)]
+#[derive(Clone, Copy)]
 pub enum Line {
     // A line from start to end, where its LF is or the text ends; next is the place behind that.
     At {

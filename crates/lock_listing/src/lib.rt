@@ -3,6 +3,8 @@
 // It is written into a lent buffer, whole or not at all. The promise leaves the order of the lines open; the program
 // takes transaction by transaction, each with its cue locks and then its modes. The `requires` ask for what opening and
 // stepping establish of the words.
+#![tactic(auto)]
+
 ghost use Rattle.std.specs.Prelude.{◌≡◌, ◌++◌, map, ◌+◌, ◌≤◌, length};
 ghost use Rattle.buffers.specs.Put.{Put};
 ghost use Rattle.records.specs.Record.{field_text};

@@ -3,6 +3,8 @@
 // The transaction is in its 64 lent words (`transactions`, specs/View). A `requires` asks for what opening and stepping
 // establish: that the counts are in range, that the sieve has the bit of each cue lock, and that there is room where
 // the model's rows have found it (`held_locks::locks_full`).
+#![tactic(auto)]
+
 ghost use Rattle.std.specs.Prelude.{◌≡◌, false, ◌^◌};
 ghost use Rattle.std.specs.Int.Bits.{bit_or};
 ghost use Rattle.boosting.specs.Locks.{cue_lock};

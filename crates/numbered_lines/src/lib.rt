@@ -2,6 +2,8 @@
 //
 // Lines are counted as `lines` divides a text. The public function has no `requires`, and the crate assumes nothing of
 // its own.
+#![tactic(auto)]
+
 ghost use Rattle.std.specs.Prelude.{◌≡◌};
 ghost use Rattle.lines.specs.Lines.{lines_of};
 ghost use Rattle.numbered_lines.specs.Numbered.{seek, Within, numbered};

@@ -3,6 +3,8 @@
 // A field of a line is 1 to 9 digits with no leading zero except 0 itself; anything else is malformed. What `digits`
 // writes of a number below 1,000,000,000 is read as that number, and what is read is that number's one form. No public
 // function has a `requires`.
+#![tactic(auto)]
+
 ghost use Rattle.std.specs.Prelude.{◌≡◌, length};
 ghost use Rattle.numbers.specs.Field.{field_at, leading_at, DigitsPassed, FieldFits};
 ghost use Rattle.numbers.specs.Number.{number_of, NineDigits};

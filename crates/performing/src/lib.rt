@@ -2,6 +2,8 @@
 //
 // Each function does to the words what the model does to the store that they show (`store_words/specs/Performed`). A
 // `requires` asks for what opening and stepping establish, and for the room that the model's rows have found.
+#![tactic(auto)]
+
 ghost use Rattle.std.specs.Prelude.{◌≡◌, true, false, ◌≤◌};
 ghost use Rattle.boosting.specs.Room.{locks_full, log_full};
 ghost use Rattle.boosting.specs.Rows.{call as call_m};

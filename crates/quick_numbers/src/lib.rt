@@ -2,6 +2,8 @@
 //
 // An answer has no digits where the text ends too soon, where no digit stands there, where a number has a leading zero,
 // and where seven digits have another behind them. No public function has a `requires`.
+#![tactic(auto)]
+
 ghost use Rattle.std.specs.Prelude.{◌≡◌, ◌+◌, ◌-◌, ◌*◌, ◌/◌, ◌%◌, ◌^◌, ◌<◌, ◌≤◌, length, drop, slice_index};
 ghost use Rattle.std.specs.Int.Count.{count_trailing_zeros};
 ghost use Rattle.quick_numbers.specs.Bytes.{Digits, small_bytes, folded};

@@ -7,6 +7,8 @@
 //
 // The codes: 0 add, 1 remove, 2 has, 3 push, 4 min, 5 take, 6 begin, 7 commit, 8 undo; 9 and any other back. Behind
 // the words with a code below 4 stands a cue.
+#![tactic(auto)]
+
 ghost use Rattle.std.specs.Prelude.{◌<◌, ◌≤◌, ◌≡◌, length, drop};
 ghost use Rattle.quick_words.specs.QuickWord.{code_text, cue_code, number_code, word_table, word_found};
 

@@ -2,6 +2,8 @@
 //
 // What a table is, and how keys are moved in it, is in `tables`. Searching goes by the order, in as many steps as the
 // table's length has bits. A `requires` asks for what a table is: that its n words are there and in order.
+#![tactic(auto)]
+
 ghost use Rattle.std.specs.Prelude.{◌≡◌, ◌+◌, ◌-◌, ◌≤◌, ◌<◌, if◌then◌else◌, nat_lt, length, take, slice_index};
 ghost use Rattle.tables.specs.Table.{Ordered, rank_of, member_of, put_once_of};
 

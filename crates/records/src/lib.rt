@@ -1,6 +1,8 @@
 // Fields and records of output lines: a number with the byte behind it, and lines `word,first,second`.
 //
 // Each is written into a lent buffer all or not at all, and no public function has a `requires`.
+#![tactic(auto)]
+
 ghost use Rattle.std.specs.Prelude.{◌≡◌, ◌+◌, ◌≤◌, length};
 ghost use Rattle.std.proofs.lemmas.List.Edits.{sets};
 ghost use Rattle.buffers.specs.Written.{written_at};

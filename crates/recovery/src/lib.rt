@@ -2,6 +2,8 @@
 //
 // It does what the steps `undo` and `back` would do (`boosting/specs/Recovery`), on lent words. A `requires` asks only
 // for what opening and stepping establish.
+#![tactic(auto)]
+
 ghost use Rattle.std.specs.Prelude.{◌≤◌};
 ghost use Rattle.boosting.specs.Rows.{request, abort as abortM, roll_back};
 ghost use Rattle.boosting.specs.Step.{step_on};

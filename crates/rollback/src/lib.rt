@@ -3,6 +3,8 @@
 // It does to the lent words what the model does to the store that they show (`store_words/specs/Performed`). The
 // `requires` of the public function asks for what opening and stepping establish, and for a request that no row turns
 // away.
+#![tactic(auto)]
+
 ghost use Rattle.std.specs.Prelude.{◌≤◌};
 ghost use Rattle.boosting.specs.Undo.{inverse};
 ghost use Rattle.boosting.specs.Rows.{roll_back};

@@ -4,6 +4,8 @@
 // Most lines have a plain form, which `quick` reads in one pass, without looking for their end first. Any other line is
 // found first and then read. Any text and any place will do; the table of words has to be `quick_words::word_table()`,
 // which the caller takes once.
+#![tactic(auto)]
+
 mod quick;
 
 ghost use Rattle.std.specs.Prelude.{◌≡◌};

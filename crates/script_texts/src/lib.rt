@@ -2,6 +2,8 @@
 //
 // The normal form of a script has its cues in rising order, a line each. It is written whole or not at all, and bytes
 // beside it stay. No public function has a `requires`.
+#![tactic(auto)]
+
 ghost use Rattle.std.specs.Prelude.{◌≡◌, ◌+◌, ◌≤◌, length};
 ghost use Rattle.std.proofs.lemmas.List.Edits.{sets};
 ghost use Rattle.buffers.specs.Written.{written_at};

@@ -3,6 +3,8 @@
 // The input is a start script, a line `steps` and a step list. The output is an answer line for each step, and after
 // recovery the script and the queue; or one line that says why the session does not start. No public function has a
 // `requires`.
+#![tactic(auto)]
+
 mod answering;
 mod running;
 mod starting;

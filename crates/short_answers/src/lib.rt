@@ -3,6 +3,8 @@
 // Where twelve bytes fit, as the longest short line has, its bytes are stored straight: no more tests of the room, and
 // no digits counted. The compiler makes one store of the bytes of each `put_`. Any other line is left to `answers`. Only
 // a place is answered, which stays in a register. The public function has no `requires`.
+#![tactic(auto)]
+
 ghost use Rattle.std.specs.Prelude.{◌≡◌, [], ◌∷◌, ◌++◌, ◌+◌, ◌≤◌, ◌<◌, length};
 ghost use Rattle.std.proofs.lemmas.List.Edits.{sets};
 ghost use Rattle.records.specs.Record.{field_text, record_text};

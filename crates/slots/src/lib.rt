@@ -2,6 +2,8 @@
 //
 // The words are read where they stand (`store_words`) and nothing is changed. A `requires` asks for what opening and
 // stepping establish of them.
+#![tactic(auto)]
+
 ghost use Rattle.std.specs.Prelude.{◌≡◌, [], ◌∷◌, map, ◌+◌, ◌<◌, ◌≤◌, nat_le, length, take};
 ghost use Rattle.std.proofs.Math.Option.{some};
 ghost use Rattle.tables.specs.Table.{Ordered};

@@ -2,6 +2,8 @@
 //
 // A word's length and its first byte leave one text to compare with. Any bytes at all will do: what is none of the ten
 // is `Unknown`. No public function has a `requires`, and the crate assumes nothing of its own.
+#![tactic(auto)]
+
 ghost use Rattle.std.specs.Prelude.{◌≡◌, if◌then◌else◌, length};
 ghost use Rattle.same_bytes.specs.Same.{same};
 ghost use Rattle.step_words.specs.Word.{word_of};

@@ -13,7 +13,7 @@ use step_words::{CueWord, NumberWord, Word, read_word};
 const COMMA: u8 = 44;
 
 // The cue of a step line as raw numbers, whatever their range.
-#[derive(Drop)]
+#[derive(Clone, Copy)]
 pub struct CueNumbers {
     pub time: u64,
     pub module: u64,

@@ -4,6 +4,8 @@
 // The script has 257 words, the queue 65, and each of the eight transactions a record of 64 (`store_words`); they are
 // altered where they stand. `open` fills words of any contents. Every other function asks for what `open` establishes
 // and every step keeps (`StoreFits`, or its part), and none asks anything of the bytes of a text or a line.
+#![tactic(auto)]
+
 mod opening;
 mod stepping;
 

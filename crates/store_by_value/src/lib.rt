@@ -3,6 +3,8 @@
 // A store is a struct of its words. Each function copies them, lets the function in place (`store`) alter the copy, and
 // gives that back; the promises are the same. Opening asks nothing of the text. Stepping and recovery ask for what
 // opening establishes and every step keeps (`Fits`).
+#![tactic(auto)]
+
 ghost use Rattle.std.specs.Prelude.{◌≡◌, map};
 ghost use Rattle.scripts.specs.Script.{script_of};
 ghost use Rattle.boosting.specs.Store.{opened};
@@ -14,7 +16,7 @@ use scripts::Outcome;
 use store::{open, recover, step};
 
 // The words of one transaction.
-#[derive(Drop)]
+#[derive(Clone, Copy)]
 pub struct Record {
     pub words: [u64; 64],
 }

@@ -2,6 +2,8 @@
 //
 // The words are read where they stand (`store_words`). A `requires` asks for what opening and stepping establish of
 // them, and for nothing of the buffer: a text is written whole or not at all.
+#![tactic(auto)]
+
 ghost use Rattle.std.specs.Prelude.{◌≡◌, length};
 ghost use Rattle.buffers.specs.Written.{written_at};
 ghost use Rattle.scripts.specs.ScriptText.{text_of};

@@ -2,6 +2,8 @@
 // needs of the words and leaves in them (`specs/States`, `specs/Performed`).
 //
 // A request is a transaction's number and an action, as in the model; a call carries its cue as a key.
+#![tactic(auto)]
+
 ghost use Rattle.std.specs.Prelude.{◌≡◌};
 ghost use Rattle.boosting.specs.Locks.{lock_of};
 ghost use Rattle.transactions.specs.Code.{model_lock};
@@ -14,7 +16,7 @@ pub const SCRIPT_COUNT: usize = 256;
 
 pub const QUEUE_COUNT: usize = 64;
 
-#[derive(Drop)]
+#[derive(Clone, Copy)]
 pub enum Call {
     Add(u64),
     Remove(u64),
@@ -24,7 +26,7 @@ pub enum Call {
     Take,
 }
 
-#[derive(Drop)]
+#[derive(Clone, Copy)]
 pub enum Action {
     Begin,
     Commit,

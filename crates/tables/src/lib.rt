@@ -2,6 +2,8 @@
 //
 // The script is such a table with no key twice, the queue one in which keys may repeat. Here keys are moved, by their
 // places; where a key stands is found in `ranks`. A `requires` asks that the place and the words are there.
+#![tactic(auto)]
+
 ghost use Rattle.std.specs.Prelude.{◌≡◌, ◌∷◌, ◌++◌, ◌+◌, ◌-◌, ◌≤◌, ◌<◌, length, take, drop};
 
 // Puts the key at a place, and moves those from there on up by one.

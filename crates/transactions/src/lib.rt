@@ -4,6 +4,8 @@
 // does to them what the model does to a transaction. Here it opens, aborts and closes; its log is in `undo_logs`,
 // what is asked of its locks in `held_locks`, and one more lock in `new_locks`. A `requires` asks for what opening and
 // stepping establish: that the counts are in range, and that the sieve has the bit of each cue lock.
+#![tactic(auto)]
+
 ghost use Rattle.std.specs.Prelude.{◌≡◌, ◌<◌, length};
 ghost use Rattle.boosting.specs.Store.{closed_transaction, open_transaction};
 ghost use Rattle.boosting.specs.Step.{aborted};
@@ -11,7 +13,7 @@ ghost use Rattle.transactions.specs.View.{WordsFit, Made, transaction_of, sieve_
 ghost use Rattle.transactions.specs.Code.{model_standing};
 
 // A lock on the cue with this key, or one of the queue's modes.
-#[derive(Drop)]
+#[derive(Clone, Copy)]
 pub enum Lock {
     Cue(u64),
     Push,

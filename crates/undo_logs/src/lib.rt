@@ -2,6 +2,8 @@
 //
 // Each function reads the log, or does to the words what the model does to a transaction: an entry noted, the newest
 // dropped, a rollback step. A `requires` asks for what opening and stepping establish.
+#![tactic(auto)]
+
 ghost use Rattle.std.specs.Prelude.{◌≡◌, ◌<◌, ◌≤◌, length};
 ghost use mathlib.Core.List.{head?};
 ghost use Rattle.boosting.specs.Store.{aborting};

@@ -1,6 +1,8 @@
 // Lines of a word and one number, and the line of the word `cue` and a cue, written.
 //
 // A line is written whole, with its LF, or not at all. No public function has a `requires`.
+#![tactic(auto)]
+
 ghost use Rattle.std.specs.Prelude.{◌≡◌, ◌++◌, ◌+◌, ◌≤◌, length};
 ghost use Rattle.std.proofs.lemmas.List.Edits.{sets};
 ghost use Rattle.buffers.specs.Written.{written_at};
