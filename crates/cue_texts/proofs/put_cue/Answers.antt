@@ -14,8 +14,7 @@ put_field-requires c = omega (arith, text_length c.args.cue)
 
 pub returns : goal.returns
 returns c =
-    let a = c.args in
-    (
+    let a = c.args in (
       omega (arith, text_length a.cue, c.put_field-a.ensures.0, c.put_field-b.ensures.0, c.put_field.ensures.0),
       text_stored a.buf.now c.put_field-a.new.buf c.put_field-b.new.buf c.put_field.new.buf a.cue a.at c.put_field-a.result c.put_field-b.result
           c.put_field-a.ensures.0 c.put_field-a.ensures.1 c.put_field-b.ensures.0 c.put_field-b.ensures.1 c.put_field.ensures.1,

@@ -1,4 +1,3 @@
-
 use Rattle.digits.proofs.+put_digits.Given as goal
 
 abbrev pub decreases-put_digits : goal.decreases-put_digits

@@ -3,7 +3,7 @@ use Rattle.lines.proofs.Laws.{up_end, up_here, up_more}
 use Rattle.lines.proofs.find_byte.Goals as goal
 
 pub returns-then-s-i : goal.returns-then-s-i
-returns-then-s-i c = 
+returns-then-s-i c =
     let a = c.args in
     let i = c.loop-i.i in
     let h : i < length a.s.now = omega arith in
@@ -11,7 +11,7 @@ returns-then-s-i c =
     omega arith
 
 pub loop-i-preserved : goal.loop-i-preserved
-loop-i-preserved c = 
+loop-i-preserved c =
     let a = c.args in
     let i = c.loop-i.i in
     let h : i < length a.s.now = omega arith in
@@ -19,7 +19,7 @@ loop-i-preserved c =
     omega arith
 
 pub returns : goal.returns
-returns c = 
+returns c =
     let a = c.args in
     let i = c.loop-i.i in
     let h : length a.s.now ≤ i = omega arith in

@@ -6,20 +6,19 @@ use Rattle.numbered_lines.specs.declared.Search.TheVariants.{Found}
 use Rattle.numbered_lines.proofs.seek_line.Goals as goal
 
 pub returns-then-left-eq0 : goal.returns-then-left-eq0
-returns-then-left-eq0 c = 
+returns-then-left-eq0 c =
     let s = c.args.text.now in
     let at = c.loop-at.at in
     let left = c.loop-at.left in
     let h : at < length s = omega arith in
-    let b = c.find_byte-end.ensures in
-    (
+    let b = c.find_byte-end.ensures in (
       ap (Found at) b.0
           ∙ (sym (seek_zero s at left h c.if-left-eq0.true) ∙ c.loop-at.invariant),
       omega arith,
     )
 
 pub loop-at-preserved : goal.loop-at-preserved
-loop-at-preserved c = 
+loop-at-preserved c =
     let s = c.args.text.now in
     let at = c.loop-at.at in
     let left = c.loop-at.left in
@@ -29,7 +28,7 @@ loop-at-preserved c =
     ∙ (sym (seek_more s at left h c.if-left-eq0.false) ∙ c.loop-at.invariant)
 
 pub returns : goal.returns
-returns c = 
+returns c =
     let s = c.args.text.now in
     let at = c.loop-at.at in
     let h : length s ≤ at = omega arith in

@@ -11,8 +11,7 @@ returns-in_default c =
 pub returns-then-end-s : goal.returns-then-end-s
 returns-then-end-s c =
     let a = c.args in
-    let e = c.in-Number.is in
-    (
+    let e = c.in-Number.is in (
       field_end a.s.now a.at _ _ (sym c.leading_number.ensures.0 ∙ e) c.if-end-s.true,
       field_fits _ _ _ _ e c.leading_number.ensures.1,
     )

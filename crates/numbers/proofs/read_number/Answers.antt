@@ -11,8 +11,7 @@ returns-in_default c =
 pub returns-then-end-field : goal.returns-then-end-field
 returns-then-end-field c =
     let s = c.args.field.now in
-    let e = c.in-Number.is in
-    (
+    let e = c.in-Number.is in (
       whole s _ _ (sym c.leading_number.ensures.0 ∙ e) c.if-end-field.true,
       (field_fits _ _ _ _ e c.leading_number.ensures.1).1,
     )

@@ -32,12 +32,12 @@ returns c =
     let room = has_room _ _ (length s) c.fits.ensures (not_from_true _ c.if-not-fits.false) in
     let small = c.if-first-gt9.false in
     elim c.if-second-le9.branch [
-      then-second-le9 w ↦
-        rw (w.value-is, w.digits-is)
-        (two_digits s a.at first second room c.digit_at-first.ensures c.digit_at-second.ensures small (omega arith)
-        (λ e. ⊎_elim (λ v. v.1 e) (λ v. absurd (omega arith)) c.else-digits-eq2.either))
-    | else-second-le9 w ↦
-        rw (w.value-is, w.digits-is)
-        (first_alone s a.at first second room c.digit_at-first.ensures c.digit_at-second.ensures small w.if-second-le9.false
-        (omega arith))
+      | then-second-le9 w ↦
+          rw (w.value-is, w.digits-is)
+          (two_digits s a.at first second room c.digit_at-first.ensures c.digit_at-second.ensures small (omega arith)
+          (λ e. ⊎_elim (λ v. v.1 e) (λ v. absurd (omega arith)) c.else-digits-eq2.either))
+      | else-second-le9 w ↦
+          rw (w.value-is, w.digits-is)
+          (first_alone s a.at first second room c.digit_at-first.ensures c.digit_at-second.ensures small w.if-second-le9.false
+          (omega arith))
     ]

@@ -81,8 +81,7 @@ returns c =
     c.in-Upto.is) in
     let a = c.args in
     let n = record_length a.word.now a.first a.second in
-    let f = word-put in
-    (
+    let f = word-put in (
       omega (arith, n, f.0, c.put_field-next.ensures.0, c.put_field.ensures.0),
       record_stored a.buf.now c.write_bytes.new.buf c.put_field-next.new.buf c.put_field.new.buf a.word.now a.at
           c.in-Upto.end c.put_field-next.result a.first a.second f.1 f.0 c.put_field-next.ensures.0 c.put_field-next.ensures.1

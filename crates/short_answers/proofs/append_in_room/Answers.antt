@@ -30,7 +30,7 @@ pub returns-in-Empty : goal.returns-in-Empty
 returns-in-Empty c =
     let a = c.args in
     let line =
-        put_behind a.buf.now c.put_four-in-Empty.new.buf c.put_two.new.buf (bytes "empt") (bytes "y\n") a.at
-        c.put_four-in-Empty.ensures c.put_two.ensures in
+    put_behind a.buf.now c.put_four-in-Empty.new.buf c.put_two.new.buf (bytes "empt") (bytes "y\n") a.at
+    c.put_four-in-Empty.ensures c.put_two.ensures in
     by_arm _ _ _ _ Empty c.in-Empty.is
     (short_line a.buf.now c.put_two.new.buf (bytes "empty\n") a.at c.requires (omega arith) line)

@@ -4,8 +4,7 @@ use Rattle.tables.proofs.remove_at.Goals as goal
 
 pub loop-i-preserved : goal.loop-i-preserved
 loop-i-preserved c =
-    let a = c.args.keys.now in
-    (
+    let a = c.args.keys.now in (
       omega arith,
       simp length-set c.loop-i.invariant.1,
       shift_rest c.loop-i.keys a c.loop-i.i _ c.loop-i.invariant.2,

@@ -1,6 +1,20 @@
 -- `session::answering::answer_lines` meets its contract: each turn appends its line's answer.
 use Rattle.std.proofs.Common.{
-  ℕ, inl, inr, ◌⊎◌, ap, arith, length, drop, take, ◌+◌, ◌-◌, ◌<◌, ◌≤◌, ◌∙◌, ◌≡◌,
+  ℕ,
+  inl,
+  inr,
+  ◌⊎◌,
+  ap,
+  arith,
+  length,
+  drop,
+  take,
+  ◌+◌,
+  ◌-◌,
+  ◌<◌,
+  ◌≤◌,
+  ◌∙◌,
+  ◌≡◌,
 }
 use Rattle.buffers.specs.Put.{Put}
 use Rattle.answers.specs.Answer.{answer_text}
