@@ -1,12 +1,11 @@
 // One case: an input, the output that document 01 gives for it, and the line that says whether it came.
-ghost use Rattle.std.specs.Prelude.{◌≡◌, true, ◌≤◌, length};
+ghost use Rattle.std.specs.Prelude.{◌≡◌, true, ◌≤◌, length, IfOk};
 ghost use Rattle.session.specs.Output.{output_of};
 
 use buffers::Written;
-use check::same;
-use libc::STDOUT_FILENO;
 use lines::{LF, find_byte};
 use session::run_session;
+use std::io;
 
 // Whether exactly the expected bytes are printed. There is room for the output of every case.
 pub fn gives(input: &[u8], expected: &[u8]) -> bool
@@ -17,25 +16,25 @@ pub fn gives(input: &[u8], expected: &[u8]) -> bool
     let Written::Upto(end) = written else {
         return false;
     };
-    same(&output[..end], expected)
+    &output[..end] == expected
 }
 
-fn print_line(word: &[u8], name: &[u8]) {
-    io::write_all(STDOUT_FILENO, word);
-    io::write_all(STDOUT_FILENO, name);
-    io::write_all(STDOUT_FILENO, b"\n");
+fn print_line<R: Print>(rt: &R, word: &[u8], name: &[u8]) -> io::Result<()> {
+    rt.write_all(word)?;
+    rt.write_all(name)?;
+    rt.write_all(b"\n")
 }
 
 // Prints how a case came out, and counts it if it is right. The name has a space in front.
-pub fn report(name: &[u8], right: bool) -> u64
-    ensures { result ≤ 1 }
+pub fn report<R: Print>(rt: &R, name: &[u8], right: bool) -> io::Result<u64>
+    ensures { IfOk result (λ counted. counted ≤ 1) }
 {
     if right {
-        print_line(b"ok   ", name);
-        return 1;
+        print_line(rt, b"ok   ", name)?;
+        return Ok(1);
     }
-    print_line(b"WRONG", name);
-    0
+    print_line(rt, b"WRONG", name)?;
+    Ok(0)
 }
 
 // The place behind the line that goes on at a place.
@@ -52,8 +51,8 @@ fn line_after(text: &[u8], at: usize) -> usize
 
 // Checks a case as it stands in the file `stdin`: behind `#` and a space the name, on the next lines the input up to
 // `=`, and behind that line the output.
-pub fn check_case(case: &[u8]) -> u64
-    ensures { result ≤ 1 }
+pub fn check_case<R: Print>(rt: &R, case: &[u8]) -> io::Result<u64>
+    ensures { IfOk result (λ counted. counted ≤ 1) }
 {
     let name = find_byte(case, 0, b' ');
     let name_end = find_byte(case, name, LF);
@@ -61,5 +60,5 @@ pub fn check_case(case: &[u8]) -> u64
     let input_end = find_byte(case, input, b'=');
     let output = line_after(case, input_end);
     let right = gives(&case[input..input_end], &case[output..]);
-    report(&case[name..name_end], right)
+    report(rt, &case[name..name_end], right)
 }

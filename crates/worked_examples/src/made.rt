@@ -1,31 +1,32 @@
 // The cases of document 01 that are no plain text: an input that is too long, and a buffer that is too short.
-ghost use Rattle.std.specs.Prelude.{◌≤◌};
+ghost use Rattle.std.specs.Prelude.{◌≤◌, IfOk};
 
 use crate::cases::{gives, report};
-use check::same;
 use formatting::{Formatted, format_script};
 use refusals::refusal_number;
+use std::io;
 
 // An input of one byte more than an input may have.
-pub fn of_texts() -> u64
-    ensures { result ≤ 1 }
+pub fn of_texts<R: Print>(rt: &R) -> io::Result<u64>
+    ensures { IfOk result (λ counted. counted ≤ 1) }
 {
     let too_long = [b'x'; 65537];
     report(
+        rt,
         b" 13: 65,537 bytes of any kind",
         gives(&too_long, b"start,13,0\n"),
     )
 }
 
 // A room of 5 for `0,1,1` and LF: the script text is not written, and the buffer stays.
-pub fn of_buffers() -> u64
-    ensures { result ≤ 1 }
+pub fn of_buffers<R: Print>(rt: &R) -> io::Result<u64>
+    ensures { IfOk result (λ counted. counted ≤ 1) }
 {
     let mut buf = [b'-'; 5];
     let formatted = format_script(&mut buf, b"0,1,1");
     let mut right = false;
     if let Formatted::Refused(refusal, _) = formatted {
-        right = refusal_number(refusal) == 14 && same(&buf, b"-----");
+        right = refusal_number(refusal) == 14 && buf == *b"-----";
     }
-    report(b" 14: room of 5 for 6 bytes", right)
+    report(rt, b" 14: room of 5 for 6 bytes", right)
 }

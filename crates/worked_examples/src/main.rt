@@ -3,29 +3,30 @@
 //
 // All but two are plain text, in the file `stdin` beside this folder. Prints a line for each, `ok` or `WRONG` with its
 // name, then how many are right; and says so where the number of cases is not the expected one.
+#![tactic(auto)]
+
 mod cases;
 mod listed;
 mod made;
 
-use libc::{STDIN_FILENO, STDOUT_FILENO};
+use std::io::{self, Read};
 
 // How many cases the file has; with the two of `made` there are 38.
 const LISTED: u64 = 36;
 
 // The closing line. Without all the cases it does not say that all is well.
-fn print_total(right: u64, listed: u64) {
-    io::print_decimal(STDOUT_FILENO, right);
+fn print_total<R: Print>(rt: &R, right: u64, listed: u64) -> io::Result<()> {
     if listed == LISTED {
-        io::write_all(STDOUT_FILENO, b" of 38 right\n");
+        println!(rt; "{right} of 38 right")
     } else {
-        io::write_all(STDOUT_FILENO, b" right, WRONG: not 38 cases\n");
+        println!(rt; "{right} right, WRONG: not 38 cases")
     }
 }
 
-fn main() {
-    let mut text = io::large_buffer();
-    let count = io::read_full(STDIN_FILENO, &mut text);
-    let listed = listed::check_cases(&text[..count]);
-    let right = listed.right + made::of_texts() + made::of_buffers();
-    print_total(right, listed.met);
+fn main(rt: HostRuntime) -> io::Result<()> {
+    let mut text = Vec::new(rt.alloc());
+    rt.reader().read_to_end(&mut text)?;
+    let listed = listed::check_cases(&rt, &text)?;
+    let right = listed.right + made::of_texts(&rt)? + made::of_buffers(&rt)?;
+    print_total(&rt, right, listed.met)
 }
