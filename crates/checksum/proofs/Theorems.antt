@@ -1,6 +1,6 @@
 -- The theorems of the checksum, as `specs/Theorems.antt` states them.
 -- Assumes nothing.
-use Rattle.std.proofs.Common.{◌≡◌, ℕ, zero, suc, ◌+◌, ◌*◌, ◌%◌, ◌^◌, ◌<◌, List, [], ◌∷◌, get_or, refl, ap, ◌∙◌, le_of_suc-le-suc, not-suc-le-zero, arith}
+use Rattle.std.proofs.Common.{◌≡◌, ℕ, zero, suc, ◌+◌, ◌*◌, ◌%◌, ◌^◌, ◌<◌, [], ◌∷◌, get_or, refl, ap, ◌∙◌, le_of_suc-le-suc, not-suc-le-zero, arith}
 use Rattle.checksum.specs.Checksum.{weight_of, weights_from, weight_table, checksum_from}
 use Rattle.checksum.specs.Theorems.{PiecesJoined, EntriesAreWeights, ChecksumBounded}
 use Rattle.checksum.specs.Theorems.{printed_values, PrintedValuesRight}

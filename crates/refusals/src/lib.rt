@@ -2,6 +2,8 @@
 //
 // One enum for every row of the table "What is turned away", and one definition for the rows'
 // numbers, so that each promise speaks of a refusal by its name and each output by its number.
+#![tactic(auto)]
+
 ghost use Rattle.std.specs.Prelude.{◌≡◌, ◌<◌};
 ghost use Rattle.refusals.specs.Refusal.{refusal_number};
 

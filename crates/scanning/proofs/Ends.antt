@@ -3,7 +3,7 @@ use Prim.Native.Nat.{ℕ, ◌-◌, ◌≤◌}
 use mathlib.Core.Path.{◌≡◌, refl}
 use mathlib.Core.List.{List, []}
 use native.Mathlib.Omega.{arith}
-use lib.ListN.{length, take, drop}
+use lib.ListN.{length}
 use Rattle.lines.specs.Lines.{up_to}
 use Rattle.lines.proofs.Laws.{up_end}
 use Rattle.steps.specs.declared.reading.Step.TheVariants.{Malformed}

@@ -1,5 +1,5 @@
 -- Laws of a number field that a comma ends, from what `numbers::read_field` says of it. Assumes nothing.
-use mathlib.Core.Path.{◌≡◌, refl, sym, ap, ◌∙◌}
+use mathlib.Core.Path.{◌≡◌, refl, sym, ◌∙◌}
 use mathlib.Core.Bool.{Bool, true, false, cond}
 use mathlib.Core.List.{List}
 use Prim.Native.Nat.{ℕ, ◌+◌, ◌≤◌, ◌<◌}
@@ -8,16 +8,12 @@ use lib.Dec.{ltb}
 use lib.ListN.{length, drop, length-drop}
 use borrow.Author.Tests.{lt-ltb, le-ltb}
 use Rattle.lines.specs.Lines.{up_to}
-use Rattle.numbers.specs.Number.{number_of}
-use Rattle.numbers.specs.declared.Number.TheVariants.{Value}
-use Rattle.numbers.specs.declared.Number.TheVariants.{Malformed as NoNumber}
-use Rattle.numbers.specs.Field.{field}
 use Rattle.numbers.specs.Field.{field_at as number_at}
 use Rattle.numbers.specs.declared.Field.{Field as Found}
 use Rattle.numbers.specs.declared.Field.TheVariants.{Number as NumberTo, Malformed as NotFound}
 use Rattle.numbers.proofs.FieldLaws.{no_field, field_read}
 use Rattle.steps.specs.declared.reading.Field.TheVariants.{Number, Malformed}
-use Rattle.steps.specs.Field.{up_to_place, field_at}
+use Rattle.steps.specs.Field.{field_at}
 
 module _ (s : List ℕ) (at : ℕ) (r : Found) (e : r ≡ number_at s at) where
   -- no number stands there

@@ -21,7 +21,6 @@ use Rattle.cue_lines.specs.CueLine.{others, three_numbers, fields_of}
 use Rattle.cue_lines.specs.declared.Fields.TheVariants.{Numbers}
 use Rattle.cue_lines.specs.declared.Fields.TheVariants.{Malformed as NoCue}
 use Rattle.cue_lines.proofs.Laws.{no_comma, one_comma}
-use Rattle.steps.specs.declared.reading.CueNumbers.{CueNumbers}
 use Rattle.step_words.specs.declared.NumberWord.{NumberWord}
 use Rattle.step_words.specs.declared.CueWord.{CueWord}
 use Rattle.step_words.specs.declared.Word.{Word}

@@ -13,7 +13,6 @@ use Rattle.cue_lines.specs.declared.Fields.{Fields}
 use Rattle.cue_lines.specs.declared.Fields.TheVariants.{Numbers}
 use Rattle.cue_lines.specs.declared.Fields.TheVariants.{Malformed as NoCue}
 use Rattle.step_words.specs.Word.{word_of}
-use Rattle.steps.specs.declared.reading.CueNumbers.{CueNumbers}
 use Rattle.step_words.specs.declared.NumberWord.{NumberWord}
 use Rattle.step_words.specs.declared.CueWord.{CueWord}
 use Rattle.step_words.specs.declared.Word.{Word}

@@ -1,3 +1,5 @@
+#![tactic(auto)]
+
 // The worked steps of document 01: no code, only theorems about the model of the desk (`boosting`).
 //
 // `specs/` has the lines as the document writes them, with their answers; `proofs/` computes them. They are a crate

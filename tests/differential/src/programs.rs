@@ -10,13 +10,13 @@ use std::{env, io, thread};
 /// The programs are run on each fixed input and on one random input in so many.
 const INPUTS_PER_RUN: usize = 64;
 
-/// The folder of the crates `cue_format`, `cue_stamp` and `cue_desk`, each with its program in `out/`; without one, nothing is run.
+/// The folder of `cue_format`, `cue_stamp` and `cue_desk`; without one, nothing is run.
 pub struct Programs {
     folder: Option<PathBuf>,
 }
 
 impl Programs {
-    /// The folder that the environment variable LIZKORPE_BIN names: that of the crates.
+    /// The folder that the environment variable LIZKORPE_BIN names.
     pub fn from_environment() -> Programs {
         let folder = env::var_os("LIZKORPE_BIN").map(PathBuf::from);
         if folder.is_none() {
@@ -42,8 +42,7 @@ impl Programs {
     fn compare(&self, name: &str, input: &[u8], expected: &[u8]) -> Result<(), Difference> {
         let Some(folder) = &self.folder else { return Ok(()) };
         // Of a program that does not run, the output is why.
-        let found = run(&folder.join(name).join("out").join(name), input)
-            .unwrap_or_else(|error| error.to_string().into_bytes());
+        let found = run(&folder.join(name), input).unwrap_or_else(|error| error.to_string().into_bytes());
         equal(&format!("output of {name}"), expected, &found)
     }
 }

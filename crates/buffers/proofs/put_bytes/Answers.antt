@@ -1,4 +1,4 @@
-use Rattle.std.proofs.Common.{arith, length, rules, ◌-◌, ◌<◌}
+use Rattle.std.proofs.Common.{arith, length, rules, ◌<◌}
 use Rattle.buffers.proofs.Laws.{copied_more}
 use Rattle.buffers.proofs.put_bytes.Goals as goal
 

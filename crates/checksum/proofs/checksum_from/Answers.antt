@@ -1,4 +1,4 @@
-use Rattle.std.proofs.Common.{ap, arith, length, sym, ℕ, ◌-◌, ◌∙◌, ◌≤◌}
+use Rattle.std.proofs.Common.{arith, length, sym, ◌∙◌, ◌≤◌}
 use Rattle.checksum.proofs.Laws.{checksum_end, checksum_more}
 use Rattle.checksum.proofs.Theorems.{entries_are_weights}
 use Rattle.checksum.proofs.checksum_from.Goals as goal

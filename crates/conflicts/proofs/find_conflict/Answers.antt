@@ -1,4 +1,4 @@
-use Rattle.std.proofs.Common.{arith, sym, ◌-◌}
+use Rattle.std.proofs.Common.{arith, sym}
 use Rattle.conflicts.proofs.Blocking.{back, conflict, nobody, own, passed, shows_some}
 use Rattle.std.proofs.lemmas.Grind.{common_steps}
 use Rattle.store_words.proofs.Places.{fit_at}

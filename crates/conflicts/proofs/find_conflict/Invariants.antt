@@ -1,5 +1,5 @@
 -- `conflicts::find_conflict` meets its contract: what it has found is the blocker from the present place on.
-use Rattle.std.proofs.Common.{◌-◌, ◌≡◌, ◌≤◌}
+use Rattle.std.proofs.Common.{◌≡◌, ◌≤◌}
 use Rattle.conflicts.proofs.Blocking.{blocker_from, shown}
 use Rattle.transactions.specs.Code.{model_lock}
 use Rattle.conflicts.proofs.find_conflict.Given as goal

@@ -1,4 +1,4 @@
-use Rattle.std.proofs.Common.{[], arith, get_or, refl, sym, ⊎_elim, ◌-◌, ◌∙◌}
+use Rattle.std.proofs.Common.{[], arith, get_or, refl, sym, ⊎_elim, ◌∙◌}
 use Rattle.boosting.specs.Locks.{cue_lock}
 use Rattle.conflicts.proofs.Blocking.{blocker_from, conflict, cue_conflict, no_conflict, nobody, own}
 use Rattle.store_words.proofs.Places.{fit_at}

@@ -1,4 +1,4 @@
-use Rattle.std.proofs.Common.{arith, ◌-◌}
+use Rattle.std.proofs.Common.{arith}
 use Rattle.conflicts.proofs.Blocking.{back, cue_conflict, passed}
 use Rattle.std.proofs.lemmas.Grind.{common_steps}
 use Rattle.store_words.proofs.Places.{fit_at}

@@ -1,5 +1,5 @@
 -- `conflicts::first_candidate` meets its contract: before the one that it has found nobody is in the way.
-use Rattle.std.proofs.Common.{◌-◌, ◌≡◌, ◌≤◌}
+use Rattle.std.proofs.Common.{◌≡◌, ◌≤◌}
 use Rattle.boosting.specs.Locks.{cue_lock}
 use Rattle.conflicts.proofs.Blocking.{blocker_from}
 use Rattle.conflicts.proofs.first_candidate.Given as goal

@@ -1,4 +1,4 @@
-use Rattle.std.proofs.Common.{arith, get_or, sym, ◌-◌, ◌∙◌}
+use Rattle.std.proofs.Common.{arith, get_or, sym, ◌∙◌}
 use Rattle.tables.proofs.Laws.{member_hit, member_miss, member_over}
 use Rattle.held_locks.proofs.holds_cue.Goals as goal
 

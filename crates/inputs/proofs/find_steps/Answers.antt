@@ -1,4 +1,4 @@
-use Rattle.std.proofs.Common.{arith, length, sym, ◌-◌, ◌<◌, ◌∙◌}
+use Rattle.std.proofs.Common.{arith, length, sym, ◌<◌, ◌∙◌}
 use Rattle.inputs.proofs.Division.{found, later}
 use Rattle.inputs.proofs.find_steps.Goals as goal
 

@@ -1,4 +1,4 @@
-use Rattle.std.proofs.Common.{arith, length, ◌-◌, ◌<◌, ◌≤◌}
+use Rattle.std.proofs.Common.{arith, length, ◌<◌, ◌≤◌}
 use Rattle.lines.proofs.Laws.{up_end, up_here, up_more}
 use Rattle.lines.proofs.find_byte.Goals as goal
 

@@ -1,4 +1,4 @@
-use Rattle.std.proofs.Common.{ap, arith, length, length-append, ◌-◌}
+use Rattle.std.proofs.Common.{ap, arith, length, length-append}
 use Rattle.lock_listing.proofs.Listings.{append-length, listing_after, listing_more, listing_over}
 use Rattle.store_words.proofs.Places.{fit_at}
 use Rattle.lock_listing.proofs.listing_length.Goals as goal

@@ -1,4 +1,4 @@
-use Rattle.std.proofs.Common.{ap, arith, get_or, length, length-append, ◌+◌, ◌-◌, ◌∙◌}
+use Rattle.std.proofs.Common.{ap, arith, get_or, length, length-append, ◌+◌, ◌∙◌}
 use Rattle.boosting.specs.Listing.{lock_line}
 use Rattle.lock_listing.proofs.Listings.{locks_from, locks_more, locks_over}
 use Rattle.lock_listing.proofs.locks_length.Goals as goal

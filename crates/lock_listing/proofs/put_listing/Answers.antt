@@ -1,4 +1,4 @@
-use Rattle.std.proofs.Common.{[], ap, arith, get_or, length, sym, ◌+◌, ◌-◌, ◌∙◌}
+use Rattle.std.proofs.Common.{[], ap, arith, get_or, length, sym, ◌+◌, ◌∙◌}
 use Rattle.buffers.proofs.Puts.{first_fits, rest_ends, rest_stored}
 use Rattle.lock_listing.proofs.Listings.{listing_after, listing_more, listing_over}
 use Rattle.lock_listing.specs.Listed.{transaction_text}

@@ -1,4 +1,4 @@
-use Rattle.std.proofs.Common.{ap, arith, get_or, length, sym, ◌+◌, ◌-◌, ◌∙◌}
+use Rattle.std.proofs.Common.{ap, arith, get_or, length, sym, ◌+◌, ◌∙◌}
 use Rattle.boosting.specs.Listing.{lock_line}
 use Rattle.buffers.proofs.Puts.{first_fits, rest_ends, rest_stored}
 use Rattle.lock_listing.proofs.Listings.{locks_from, locks_more, locks_over}

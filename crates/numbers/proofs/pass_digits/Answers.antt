@@ -1,4 +1,5 @@
-use Rattle.std.proofs.Common.{arith, get_or, length, ◌-◌, ◌<◌, ◌≤◌}
+-- `numbers::pass_digits` meets its contract: what the digits passed so far come to, at each way out.
+use Rattle.std.proofs.Common.{arith, get_or, length, ◌<◌, ◌≤◌}
 use Rattle.numbers.proofs.FieldLaws.{lead_end, lead_high, lead_low, Passed-all, Passed-many, Passed-more}
 use Rattle.numbers.proofs.pass_digits.Goals as goal
 
@@ -26,7 +27,7 @@ returns-then-i-at-eq9 c =
     let h : i < length a.s.now = omega arith in
     let l : 48 ≤ get_or a.s.now i 0 = omega arith in
     let g : get_or a.s.now i 0 ≤ 57 = omega arith in
-    Passed-many a.s.now a.at i c.loop-i.n c.loop-i.invariant h l g c.if-i-at-eq9.true
+    Passed-many a.s.now a.at i c.loop-i.n c.loop-i.invariant h l g (omega arith)
 
 pub loop-i-preserved : goal.loop-i-preserved
 loop-i-preserved c =
@@ -34,7 +35,7 @@ loop-i-preserved c =
     let i = c.loop-i.i in
     let h : i < length a.s.now = omega arith in
     Passed-more a.s.now a.at i c.loop-i.n c.wide-b.result c.loop-i.invariant h c.wide-b.ensures
-    c.if-b-lt48.false c.if-b-gt57.false c.if-i-at-eq9.false
+    c.if-b-lt48.false c.if-b-gt57.false (λ e. omega arith)
 
 pub returns : goal.returns
 returns c =

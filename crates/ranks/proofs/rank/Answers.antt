@@ -1,5 +1,5 @@
 -- `ranks::rank` meets its contract: behind the last key, or found by one of the searches.
-use Rattle.std.proofs.Common.{arith, get_or-take, length, length-take-le, take, ◌-◌, ◌≡◌}
+use Rattle.std.proofs.Common.{arith, get_or-take, length, length-take-le, take, ◌≡◌}
 use Rattle.ranks.proofs.Laws.{rank_le, rank_up}
 use Rattle.ranks.proofs.rank.Goals as goal
 

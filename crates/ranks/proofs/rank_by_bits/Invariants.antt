@@ -1,5 +1,5 @@
 -- `ranks::rank_by_bits` meets its contract: the rank is among the `left` places behind `lo`.
-use Rattle.std.proofs.Common.{take, ◌+◌, ◌-◌, ◌≤◌}
+use Rattle.std.proofs.Common.{take, ◌+◌, ◌≤◌}
 use Rattle.tables.specs.Table.{rank_of}
 use Rattle.ranks.proofs.rank_by_bits.Given as goal
 

@@ -1,4 +1,4 @@
-use Rattle.std.proofs.Common.{arith, sym, ◌-◌, ◌∙◌}
+use Rattle.std.proofs.Common.{arith, sym, ◌∙◌}
 use Rattle.store_words.specs.Words.{store_of}
 use Rattle.recovery.proofs.Recovering as laws
 use Rattle.recovery.proofs.recover.Goals as goal

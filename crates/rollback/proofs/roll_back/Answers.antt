@@ -1,5 +1,4 @@
 -- `rollback::roll_back` meets its contract.
-use Rattle.std.proofs.Common.{◌-◌}
 use Rattle.boosting.specs.Rows.{roll_back}
 use Rattle.undo_logs.specs.Code.{model_newest}
 use Rattle.store_words.proofs.Performed as words

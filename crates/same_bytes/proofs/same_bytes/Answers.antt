@@ -1,4 +1,4 @@
-use Rattle.std.proofs.Common.{arith, length, sym, ◌-◌, ◌<◌, ◌∙◌, ◌≤◌}
+use Rattle.std.proofs.Common.{arith, length, sym, ◌<◌, ◌∙◌, ◌≤◌}
 use Rattle.same_bytes.proofs.Laws.{same_lengths, same_differs, same_end, same_more}
 use Rattle.same_bytes.proofs.same_bytes.Goals as goal
 

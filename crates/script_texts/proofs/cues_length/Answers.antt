@@ -1,4 +1,4 @@
-use Rattle.std.proofs.Common.{ap, arith, get_or, length, ◌-◌, ◌<◌, ◌≡◌, ◌≤◌}
+use Rattle.std.proofs.Common.{ap, arith, get_or, length, ◌<◌, ◌≡◌, ◌≤◌}
 use Rattle.cue_texts.specs.CueText.{cue_text}
 use Rattle.cues.specs.Cue.{cue_of}
 use Rattle.cues.specs.declared.Cue.{Cue}

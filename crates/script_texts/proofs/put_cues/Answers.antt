@@ -1,4 +1,4 @@
-use Rattle.std.proofs.Common.{ap, arith, length, sym, ◌+◌, ◌-◌, ◌<◌, ◌∙◌, ◌≤◌}
+use Rattle.std.proofs.Common.{ap, arith, length, sym, ◌+◌, ◌<◌, ◌∙◌, ◌≤◌}
 use Rattle.buffers.proofs.Answers.{not_refused, put_there}
 use Rattle.cue_texts.specs.CueText.{cue_text}
 use Rattle.cues.specs.declared.Cue.{Cue}

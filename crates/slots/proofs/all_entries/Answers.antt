@@ -1,4 +1,4 @@
-use Rattle.std.proofs.Common.{arith, ◌-◌}
+use Rattle.std.proofs.Common.{arith}
 use Rattle.slots.proofs.AllEntries.{entries_next, entries_over}
 use Rattle.store_words.proofs.Places.{fit_at}
 use Rattle.slots.proofs.all_entries.Goals as goal

@@ -1,4 +1,4 @@
-use Rattle.std.proofs.Common.{arith, ◌-◌}
+use Rattle.std.proofs.Common.{arith}
 use Rattle.slots.proofs.QueueSlots.{takes_next, takes_over}
 use Rattle.store_words.proofs.Places.{fit_at}
 use Rattle.slots.proofs.queue_slots.Goals as goal

@@ -1,5 +1,5 @@
 -- `slots::reserve_all` meets its contract: the slots from place i on are put in.
-use Rattle.std.proofs.Common.{length, take, ◌*◌, ◌+◌, ◌-◌, ◌≡◌, ◌≤◌}
+use Rattle.std.proofs.Common.{length, take, ◌*◌, ◌+◌, ◌≡◌, ◌≤◌}
 use Rattle.slots.proofs.ScriptSlots.{slots_from}
 use Rattle.store_words.specs.Words.{script_in}
 use Rattle.slots.proofs.reserve_all.Given as goal

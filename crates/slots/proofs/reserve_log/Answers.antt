@@ -1,4 +1,4 @@
-use Rattle.std.proofs.Common.{arith, get_or, length, refl, take, ◌-◌, ◌≡◌}
+use Rattle.std.proofs.Common.{arith, get_or, length, refl, take, ◌≡◌}
 use Rattle.slots.proofs.ScriptSlots.{by_more, by_none, by_ordered, by_all}
 use Rattle.transactions.specs.View.{entries_of}
 use Rattle.slots.proofs.reserve_log.Goals as goal

@@ -1,4 +1,4 @@
-use Rattle.std.proofs.Common.{arith, length-set, ◌-◌}
+use Rattle.std.proofs.Common.{arith, length-set}
 use Rattle.store_by_value.proofs.Records.{unpacked_more}
 use Rattle.store_by_value.proofs.unpack.Goals as goal
 

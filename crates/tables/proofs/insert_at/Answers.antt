@@ -1,4 +1,4 @@
-use Rattle.std.proofs.Common.{arith, length-set, ◌-◌, ◌<◌}
+use Rattle.std.proofs.Common.{arith, length-set, ◌<◌}
 use Rattle.tables.proofs.Laws.{ripple, ripple_rest}
 use Rattle.tables.proofs.insert_at.Goals as goal
 

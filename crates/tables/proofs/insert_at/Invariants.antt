@@ -1,6 +1,6 @@
 -- `tables::insert_at` meets its contract. The invariant: the keys before i with the carried one and those from i on
 -- are the table with the new key.
-use Rattle.std.proofs.Common.{drop, length, take, ◌++◌, ◌+◌, ◌-◌, ◌∷◌, ◌≡◌, ◌≤◌}
+use Rattle.std.proofs.Common.{drop, length, take, ◌++◌, ◌-◌, ◌∷◌, ◌≡◌, ◌≤◌}
 use Rattle.tables.proofs.insert_at.Given as goal
 
 abbrev pub invariant-loop-i : goal.invariant-loop-i

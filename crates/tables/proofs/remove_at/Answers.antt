@@ -1,4 +1,4 @@
-use Rattle.std.proofs.Common.{arith, length-set, ◌-◌}
+use Rattle.std.proofs.Common.{arith, length-set}
 use Rattle.tables.proofs.Laws.{close_up, shift_rest}
 use Rattle.tables.proofs.remove_at.Goals as goal
 

@@ -1,4 +1,4 @@
-use Rattle.std.proofs.Common.{arith, refl, ⊎_elim, ◌-◌}
+use Rattle.std.proofs.Common.{arith, refl, ⊎_elim}
 use Rattle.boosting.specs.Room.{takes_by}
 use Rattle.undo_logs.proofs.Logs.{takes_more, takes_same}
 use Rattle.undo_logs.proofs.take_count.Goals as goal

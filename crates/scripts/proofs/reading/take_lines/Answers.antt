@@ -1,4 +1,4 @@
-use Rattle.std.proofs.Common.{arith, length, take, ◌-◌, ◌<◌, ◌∙◌, ◌≤◌}
+use Rattle.std.proofs.Common.{arith, length, take, ◌<◌, ◌∙◌, ◌≤◌}
 use Rattle.scripts.proofs.ReadLaws.{count_refused, count_fits, count_kept, line_ordered, read_end, read_on_lem, read_refused}
 use Rattle.scripts.proofs.reading.take_lines.Goals as goal
 

@@ -1,4 +1,4 @@
-use Rattle.std.proofs.Common.{arith, length, length-set, ◌-◌, ◌∙◌, ◌≡◌}
+use Rattle.std.proofs.Common.{arith, length, length-set, ◌∙◌, ◌≡◌}
 use Rattle.store.proofs.Opened as laws
 use Rattle.store.proofs.opening.close_all.Goals as goal
 
