@@ -1,6 +1,7 @@
 -- `worked_examples::cases::gives` meets its contract: only the expected output is right.
 use Rattle.std.proofs.Common.{arith, sym, ◌∙◌}
 use Rattle.std.proofs.Math.Seq.{length-take-le}
+use lib.Pointwise.{bytes_decides}
 use Rattle.buffers.proofs.Answers.{within}
 use Rattle.worked_examples.proofs.Printed.{printed}
 use Rattle.worked_examples.proofs.cases.gives.Goals as goal
@@ -17,6 +18,6 @@ slice_bounds-eq-end c =
 
 pub returns : goal.returns
 returns c =
-    λ t.
+    λ right.
     let w = c.run_session-written in
-    sym (printed _ _ _ w.result _ w.ensures c.in-Upto.is) ∙ c.eq.ensures.0 t
+    sym (printed _ _ _ w.result _ w.ensures c.in-Upto.is) ∙ (bytes_decides _ _).0 (sym c.eq.ensures ∙ right)
