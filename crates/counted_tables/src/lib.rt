@@ -25,7 +25,7 @@ pub fn has_key(table: &[u64], capacity: usize, key: u64) -> bool
 // Puts the key in the table unless it is there: whether it was not.
 pub fn put_once(table: &mut [u64], capacity: usize, key: u64) -> bool
     requires table_fits { TableFits capacity table.old × Ordered 0 (keys_in capacity table.old) }
-    requires table_len_bound { length (put_once_of key (keys_in capacity table.old)) ≤ capacity }
+    requires has_room { length (put_once_of key (keys_in capacity table.old)) ≤ capacity }
     ensures value { result ≡ not (member_of key (keys_in capacity table.old)) }
     ensures holds { Holds capacity table.new (put_once_of key (keys_in capacity table.old)) }
 {
@@ -38,7 +38,7 @@ pub fn put_once(table: &mut [u64], capacity: usize, key: u64) -> bool
 // Puts the key in the table, which may have it already.
 pub fn insert_key(table: &mut [u64], capacity: usize, key: u64)
     requires table_fits { TableFits capacity table.old × Ordered 0 (keys_in capacity table.old) }
-    requires table_len_bound { length (insert_of key (keys_in capacity table.old)) ≤ capacity }
+    requires has_room { length (insert_of key (keys_in capacity table.old)) ≤ capacity }
     ensures { Holds capacity table.new (insert_of key (keys_in capacity table.old)) }
 {
     let n = table[capacity] as usize;

@@ -142,7 +142,7 @@ fn put_mode(buf: &mut [u8], at: usize, e: u64, held: bool, word: &[u8]) -> usize
 // The lines of a transaction's cue locks.
 fn put_locks(buf: &mut [u8], at: usize, e: u64, t: &[u64; 64]) -> usize
     requires words_fit { WordsFit t.now }
-    requires t_in_bounds { at + length (locks_text e t.now) ≤ length buf.old }
+    requires has_room { at + length (locks_text e t.now) ≤ length buf.old }
     ensures { Put buf.old at (locks_text e t.now) result buf.new }
 {
     let n = t[LOCK_COUNT] as usize;
@@ -168,7 +168,7 @@ fn put_modes(buf: &mut [u8], at: usize, e: u64, t: &[u64; 64]) -> usize
 // The lines of a transaction.
 fn put_transaction(buf: &mut [u8], at: usize, e: u64, t: &[u64; 64]) -> usize
     requires words_fit { WordsFit t.now }
-    requires t_in_bounds { at + length (transaction_text e t.now) ≤ length buf.old }
+    requires has_room { at + length (transaction_text e t.now) ≤ length buf.old }
     ensures { Put buf.old at (transaction_text e t.now) result buf.new }
 {
     let middle = put_locks(buf, at, e, t);
@@ -178,7 +178,7 @@ fn put_transaction(buf: &mut [u8], at: usize, e: u64, t: &[u64; 64]) -> usize
 // The lines of all eight.
 fn put_listing(buf: &mut [u8], at: usize, ts: &[[u64; 64]; 8]) -> usize
     requires transactions_fit { TransactionsFit ts.now }
-    requires ts_in_bounds { at + length (listing_text ts.now) ≤ length buf.old }
+    requires has_room { at + length (listing_text ts.now) ≤ length buf.old }
     ensures { Put buf.old at (listing_text ts.now) result buf.new }
 {
     let mut end = at;

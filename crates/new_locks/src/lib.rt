@@ -25,7 +25,7 @@ fn with_bit(sieve: u64, key: u64) -> u64
 // The cue lock is held, once.
 fn hold_cue(t: &mut [u64; 64], key: u64)
     requires words_fit { WordsFit t.old }
-    requires t_value { locks_full (cue_lock key) (transaction_of t.old).locks ≡ false }
+    requires not_full { locks_full (cue_lock key) (transaction_of t.old).locks ≡ false }
     ensures { Made t.new (with_lock (cue_lock key) (transaction_of t.old)) }
 {
     if holds_cue(t, key) {
@@ -41,7 +41,7 @@ fn hold_cue(t: &mut [u64; 64], key: u64)
 // The lock is held, once, besides those that were.
 pub fn hold(t: &mut [u64; 64], lock: Lock)
     requires words_fit { WordsFit t.old }
-    requires t_value { locks_full (model_lock lock) (transaction_of t.old).locks ≡ false }
+    requires not_full { locks_full (model_lock lock) (transaction_of t.old).locks ≡ false }
     ensures { Made t.new (with_lock (model_lock lock) (transaction_of t.old)) }
 {
     match lock {

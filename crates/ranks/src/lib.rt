@@ -37,8 +37,8 @@ fn if_below(other: u64, key: u64, count: usize) -> usize
 
 // How many keys are below `key`, which is at most the last of them; that one is below 2^63.
 fn rank_by_bits(keys: &[u64], n: usize, key: u64) -> usize
-    requires n_in_bounds { (n ≤ length keys.now) × Ordered 0 (take n keys.now) × (1 ≤ n) }
-    requires key_bound { (key ≤ slice_index keys.now (n - 1)) × (slice_index keys.now (n - 1) < 9223372036854775808) }
+    requires in_order { (n ≤ length keys.now) × Ordered 0 (take n keys.now) × (1 ≤ n) }
+    requires at_most_last { (key ≤ slice_index keys.now (n - 1)) × (slice_index keys.now (n - 1) < 9223372036854775808) }
     ensures { (result ≡ rank_of key (take n keys.now)) × (result ≤ n) }
 {
     let mut lo = 0;
@@ -72,8 +72,8 @@ pub fn rank(keys: &[u64], n: usize, key: u64) -> usize
 
 // Whether the key stands in the table, by its rank.
 pub fn stands_at(keys: &[u64], n: usize, at: usize, key: u64) -> bool
-    requires n_in_bounds { (n ≤ length keys.now) × Ordered 0 (take n keys.now) }
-    requires at_value { at ≡ rank_of key (take n keys.now) }
+    requires in_order { (n ≤ length keys.now) × Ordered 0 (take n keys.now) }
+    requires at_rank { at ≡ rank_of key (take n keys.now) }
     ensures { result ≡ member_of key (take n keys.now) }
 {
     if at < n {

@@ -124,7 +124,7 @@ pub fn drop_newest(t: &mut [u64; 64])
 // The newest entry is undone: the log loses it, and with no entry left the transaction closes.
 pub fn unwind(t: &mut [u64; 64])
     requires words_fit { WordsFit t.old }
-    requires t_value { (transaction_of t.old).standing ≡ aborting }
+    requires is_aborting { (transaction_of t.old).standing ≡ aborting }
     ensures { Made t.new (unwound_once (transaction_of t.old)) }
 {
     drop_newest(t);

@@ -11,9 +11,9 @@ put_once-requires-clause-table_fits c =
     let q = c.args.queue.now in
     states.script_ordered x q c.requires.state_fits
 
-pub put_once-requires-clause-table_len_bound : goal.put_once-requires-clause-table_len_bound
+pub put_once-requires-clause-has_room : goal.put_once-requires-clause-has_room
 unfolding effect
-put_once-requires-clause-table_len_bound c =
+put_once-requires-clause-has_room c =
     let x = c.args.script.now in
     let q = c.args.queue.now in
     rw c.in-Add.is at c.requires.has_room.script
@@ -30,9 +30,9 @@ has_key-requires c =
     let q = c.args.queue.now in
     states.script_ordered x q c.requires.state_fits
 
-pub insert_key-requires-clause-table_len_bound : goal.insert_key-requires-clause-table_len_bound
+pub insert_key-requires-clause-has_room : goal.insert_key-requires-clause-has_room
 unfolding effect
-insert_key-requires-clause-table_len_bound c =
+insert_key-requires-clause-has_room c =
     let x = c.args.script.now in
     let q = c.args.queue.now in
     rw c.in-Push.is at c.requires.has_room.queue

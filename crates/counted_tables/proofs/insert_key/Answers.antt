@@ -9,4 +9,4 @@ returns c =
     let k = c.args.key in
     laws.inserted m t c.requires.table_fits.0 c.insert_at.new.keys c.insert_at.auto.keys k c.rank-at.result
     c.rank-at.ensures.0
-    c.requires.table_len_bound c.insert_at.ensures
+    c.requires.has_room c.insert_at.ensures

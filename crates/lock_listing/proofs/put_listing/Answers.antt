@@ -10,13 +10,13 @@ pub put_transaction-end-requires-clause-words_fit : goal.put_transaction-end-req
 put_transaction-end-requires-clause-words_fit c =
     fit_at c.args.ts.now c.requires.transactions_fit c.loop-i.i (omega arith)
 
-pub put_transaction-end-requires-clause-t_in_bounds : goal.put_transaction-end-requires-clause-t_in_bounds
-put_transaction-end-requires-clause-t_in_bounds c =
+pub put_transaction-end-requires-clause-has_room : goal.put_transaction-end-requires-clause-has_room
+put_transaction-end-requires-clause-has_room c =
     let ts = c.args.ts.now in
     let l = c.loop-i in
     first_fits l.buf (transaction_text (l.i + 1) (get_or ts l.i [])) (listing_after ts (l.i + 1))
     (listing_after ts l.i) l.end (listing_more ts l.i (omega (arith, c.requires.transactions_fit.eight)))
-    (omega (arith, l.invariant, c.requires.ts_in_bounds))
+    (omega (arith, l.invariant, c.requires.has_room))
 
 pub loop-i-preserved : goal.loop-i-preserved
 loop-i-preserved c =

@@ -10,7 +10,7 @@ put_lock-end-requires c =
     let a = c.args in
     let w = a.t.now in
     first_fits c.loop-j.buf (lock_line a.e (get_or w c.loop-j.j 0)) (locks_from a.e w (c.loop-j.j + 1)) (locks_from a.e w c.loop-j.j)
-    c.loop-j.end (locks_more a.e w c.requires.words_fit c.loop-j.j (omega arith)) (omega (arith, c.loop-j.invariant, c.requires.t_in_bounds))
+    c.loop-j.end (locks_more a.e w c.requires.words_fit c.loop-j.j (omega arith)) (omega (arith, c.loop-j.invariant, c.requires.has_room))
 
 pub loop-j-preserved : goal.loop-j-preserved
 loop-j-preserved c =

@@ -4,19 +4,19 @@ use Rattle.lock_listing.proofs.Listings.{transaction_text_lem}
 use Rattle.lock_listing.specs.Listed.{locks_text, modes_text, transaction_text}
 use Rattle.lock_listing.proofs.put_transaction.Goals as goal
 
-pub put_locks-middle-requires-clause-t_in_bounds : goal.put_locks-middle-requires-clause-t_in_bounds
-put_locks-middle-requires-clause-t_in_bounds c =
+pub put_locks-middle-requires-clause-has_room : goal.put_locks-middle-requires-clause-has_room
+put_locks-middle-requires-clause-has_room c =
     let a = c.args in
     let w = a.t.now in
     first_fits a.buf.now (locks_text a.e w) (modes_text a.e w) (transaction_text a.e w) a.at
-    (transaction_text_lem a.e w) c.requires.t_in_bounds
+    (transaction_text_lem a.e w) c.requires.has_room
 
 pub put_modes-requires : goal.put_modes-requires
 put_modes-requires c =
     let a = c.args in
     let w = a.t.now in
     rest_fits a.buf.now (locks_text a.e w) (modes_text a.e w) (transaction_text a.e w) a.at
-    (transaction_text_lem a.e w) c.put_locks-middle.new.buf c.put_locks-middle.result c.put_locks-middle.ensures c.requires.t_in_bounds
+    (transaction_text_lem a.e w) c.put_locks-middle.new.buf c.put_locks-middle.result c.put_locks-middle.ensures c.requires.has_room
 
 pub returns : goal.returns
 returns c =

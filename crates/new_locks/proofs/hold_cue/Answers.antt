@@ -11,5 +11,5 @@ pub returns : goal.returns
 returns c =
     let t = c.args.t.now in
     let m = sym c.holds_cue.ensures ∙ c.if-holds_cue.false in
-    let h : get_or t 60 0 < 24 = room_left t c.requires.words_fit c.args.key m c.requires.t_value in
+    let h : get_or t 60 0 < 24 = room_left t c.requires.words_fit c.args.key m c.requires.not_full in
     held_now t c.requires.words_fit c.args.key (get_or t 60 0) c.with_bit-sieve.result m refl h c.with_bit-sieve.ensures

@@ -29,8 +29,8 @@ unwind-requires-clause-words_fit c =
     let e = c.args.e in
     words.words_fit x q ts e roll_back c.requires.0 c.requires.1 c.requires.2
 
-pub unwind-requires-clause-t_value : goal.unwind-requires-clause-t_value
-unwind-requires-clause-t_value c =
+pub unwind-requires-clause-is_aborting : goal.unwind-requires-clause-is_aborting
+unwind-requires-clause-is_aborting c =
     let x = c.args.script.now in
     let q = c.args.queue.now in
     let ts = c.args.ts.now in

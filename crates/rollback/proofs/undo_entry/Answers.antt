@@ -16,16 +16,16 @@ put_once-requires-clause-table_fits c =
     let q = c.args.queue.now in
     laws.script_ordered x q c.requires.state_fits
 
-pub put_once-requires-clause-table_len_bound : goal.put_once-requires-clause-table_len_bound
+pub put_once-requires-clause-has_room : goal.put_once-requires-clause-has_room
 unfolding inverse
-put_once-requires-clause-table_len_bound c =
+put_once-requires-clause-has_room c =
     let x = c.args.script.now in
     let q = c.args.queue.now in
     rw c.in-Removed.is at c.requires.has_room.script
 
-pub insert_key-requires-clause-table_len_bound : goal.insert_key-requires-clause-table_len_bound
+pub insert_key-requires-clause-has_room : goal.insert_key-requires-clause-has_room
 unfolding inverse
-insert_key-requires-clause-table_len_bound c =
+insert_key-requires-clause-has_room c =
     let x = c.args.script.now in
     let q = c.args.queue.now in
     rw c.in-Taken.is at c.requires.has_room.queue

@@ -24,7 +24,7 @@ rank-at-requires c =
     let o = in_ordered (map transaction_of c.args.ts.now) (script_in c.args.script.now) c.requires.1 in
     (omega (arith, c.reserve_all-n.ensures), Ordered-weaken 1 (take c.reserve_all-n.result c.reserve_all-n.new.keys) (rw c.reserve_all-n.ensures.0 o))
 
-pub stands_at-requires-clause-n_in_bounds : goal.stands_at-requires-clause-n_in_bounds
-stands_at-requires-clause-n_in_bounds c =
+pub stands_at-requires-clause-in_order : goal.stands_at-requires-clause-in_order
+stands_at-requires-clause-in_order c =
     let l : length c.reserve_all-n.new.keys ≡ 385 = c.reserve_all-n.auto.keys ∙ refl in
     let o = in_ordered (map transaction_of c.args.ts.now) (script_in c.args.script.now) c.requires.1 in (omega (arith, c.reserve_all-n.ensures), Ordered-weaken 1 (take c.reserve_all-n.result c.reserve_all-n.new.keys) (rw c.reserve_all-n.ensures.0 o))

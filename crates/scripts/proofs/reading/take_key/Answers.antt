@@ -7,8 +7,8 @@ use Rattle.scripts.proofs.reading.take_key.Goals as goal
 pub rank-at-requires : goal.rank-at-requires
 rank-at-requires c = (omega arith, Ordered-weaken 1 (take c.args.n c.args.keys.now) c.requires.2)
 
-pub stands_at-requires-clause-n_in_bounds : goal.stands_at-requires-clause-n_in_bounds
-stands_at-requires-clause-n_in_bounds c = grind (arith, Ordered-weaken)
+pub stands_at-requires-clause-in_order : goal.stands_at-requires-clause-in_order
+stands_at-requires-clause-in_order c = grind (arith, Ordered-weaken)
 
 pub returns : goal.returns
 returns c =
