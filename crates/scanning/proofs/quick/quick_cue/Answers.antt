@@ -40,4 +40,4 @@ returns c =
     c.if-text-module_end-ne-COMMA.false
     (number_earlier withModule s pin 2 p fp some-p _
     (ended line s _ end (call_line a.code a.e _ _ c.requires.1 c.cue_word.ensures nine)
-    (omega (arith, ft.few, fm.few, fp.few)) c.if-text-end-ne-LF.false)))
+    (omega (arith, ft.few, fm.few, fp.few)) (omega arith))))
