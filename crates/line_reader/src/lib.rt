@@ -2,7 +2,7 @@
 //
 // The work is done by the functions on a text and a number; those over the record are thin. A caller that does not
 // want the record uses `first_line` and `lines::next_line`. No public function has a `requires`, and the crate assumes
-// nothing of its own. The functions over the record are proved by walks of their MIR, by hand.
+// nothing of its own.
 #![tactic(auto)]
 
 ghost use Rattle.std.specs.Prelude.{◌≡◌};

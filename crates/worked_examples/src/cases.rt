@@ -1,5 +1,5 @@
 // One case: an input, the output that document 01 gives for it, and the line that says whether it came.
-ghost use Rattle.std.specs.Prelude.{◌≡◌, true, ◌≤◌, length, IfOk};
+ghost use Rattle.std.specs.Prelude.{◌≡◌, true, ◌≤◌, length};
 ghost use Rattle.session.specs.Output.{output_of};
 
 use buffers::Written;
@@ -19,22 +19,27 @@ pub fn gives(input: &[u8], expected: &[u8]) -> bool
     &output[..end] == expected
 }
 
-fn print_line<R: Print>(rt: &R, word: &[u8], name: &[u8]) -> io::Result<()> {
+fn write_line<R: Print>(rt: &R, word: &[u8], name: &[u8]) -> io::Result<()> {
     rt.write_all(word)?;
     rt.write_all(name)?;
     rt.write_all(b"\n")
 }
 
+// A line that cannot be written is passed over; what cannot be written at all ends the program at the closing line.
+fn print_line<R: Print>(rt: &R, word: &[u8], name: &[u8]) {
+    let _ = write_line(rt, word, name);
+}
+
 // Prints how a case came out, and counts it if it is right. The name has a space in front.
-pub fn report<R: Print>(rt: &R, name: &[u8], right: bool) -> io::Result<u64>
-    ensures { IfOk result (λ counted. counted ≤ 1) }
+pub fn report<R: Print>(rt: &R, name: &[u8], right: bool) -> u64
+    ensures { result ≤ 1 }
 {
     if right {
-        print_line(rt, b"ok   ", name)?;
-        return Ok(1);
+        print_line(rt, b"ok   ", name);
+        return 1;
     }
-    print_line(rt, b"WRONG", name)?;
-    Ok(0)
+    print_line(rt, b"WRONG", name);
+    0
 }
 
 // The place behind the line that goes on at a place.
@@ -51,8 +56,8 @@ fn line_after(text: &[u8], at: usize) -> usize
 
 // Checks a case as it stands in the file `stdin`: behind `#` and a space the name, on the next lines the input up to
 // `=`, and behind that line the output.
-pub fn check_case<R: Print>(rt: &R, case: &[u8]) -> io::Result<u64>
-    ensures { IfOk result (λ counted. counted ≤ 1) }
+pub fn check_case<R: Print>(rt: &R, case: &[u8]) -> u64
+    ensures { result ≤ 1 }
 {
     let name = find_byte(case, 0, b' ');
     let name_end = find_byte(case, name, LF);

@@ -1,14 +1,13 @@
 // The cases of document 01 that are no plain text: an input that is too long, and a buffer that is too short.
-ghost use Rattle.std.specs.Prelude.{◌≤◌, IfOk};
+ghost use Rattle.std.specs.Prelude.{◌≤◌};
 
 use crate::cases::{gives, report};
 use formatting::{Formatted, format_script};
 use refusals::refusal_number;
-use std::io;
 
 // An input of one byte more than an input may have.
-pub fn of_texts<R: Print>(rt: &R) -> io::Result<u64>
-    ensures { IfOk result (λ counted. counted ≤ 1) }
+pub fn of_texts<R: Print>(rt: &R) -> u64
+    ensures { result ≤ 1 }
 {
     let too_long = [b'x'; 65537];
     report(
@@ -19,8 +18,8 @@ pub fn of_texts<R: Print>(rt: &R) -> io::Result<u64>
 }
 
 // A room of 5 for `0,1,1` and LF: the script text is not written, and the buffer stays.
-pub fn of_buffers<R: Print>(rt: &R) -> io::Result<u64>
-    ensures { IfOk result (λ counted. counted ≤ 1) }
+pub fn of_buffers<R: Print>(rt: &R) -> u64
+    ensures { result ≤ 1 }
 {
     let mut buf = [b'-'; 5];
     let formatted = format_script(&mut buf, b"0,1,1");

@@ -23,10 +23,11 @@ fn print_total<R: Print>(rt: &R, right: u64, listed: u64) -> io::Result<()> {
     }
 }
 
+// All the cases together are no longer than an input may be.
 fn main(rt: HostRuntime) -> io::Result<()> {
     let mut text = Vec::new(rt.alloc());
-    rt.reader().read_to_end(&mut text)?;
-    let listed = listed::check_cases(&rt, &text)?;
-    let right = listed.right + made::of_texts(&rt)? + made::of_buffers(&rt)?;
+    rt.reader().take(65536).read_to_end(&mut text)?;
+    let listed = listed::check_cases(&rt, &text);
+    let right = listed.right + made::of_texts(&rt) + made::of_buffers(&rt);
     print_total(&rt, right, listed.met)
 }
