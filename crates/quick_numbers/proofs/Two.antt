@@ -1,5 +1,6 @@
 -- Laws of one digit and of two, each read as the byte less 48 modulo 2 ^ 64. Assumes nothing.
 use Rattle.std.proofs.Common.{◌≡◌, ℕ, suc, ◌+◌, ◌-◌, ◌*◌, ◌%◌, ◌^◌, ◌<◌, ◌≤◌, List, [], ◌∷◌, length, get_or, take, drop, refl, ap, ◌∙◌, add-one, arith, length-drop, drop-cons}
+use Rattle.buffers.proofs.Laws.{has_room, no_room}
 use Rattle.numbers.specs.declared.Number.TheVariants.{Value}
 use Rattle.numbers.specs.Number.{value_from, number_of}
 use Rattle.numbers.specs.Field.{leading}
@@ -92,3 +93,6 @@ module _ (s : List ℕ) (at a b : ℕ) (room : at + 2 ≤ length s) (first : (a 
       refl
       (omega arith)
       (one_number a digit)
+
+-- what the functions of one digit and of two are proved by
+pub ruleset short_reads = (has_room, no_room, no_text, no_first, leading_zero, one_digit)

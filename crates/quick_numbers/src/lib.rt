@@ -48,7 +48,7 @@ fn digit_at(text: &[u8], i: usize) -> u64
     std::num::wrapping_sub_u64(wide(text[i]), 48)
 }
 
-#[tactic(auto, using(buffers::proofs::Laws::has_room, buffers::proofs::Laws::no_room, crate::proofs::Two::no_text, crate::proofs::Two::no_first, crate::proofs::Two::one_digit))]
+#[tactic(auto, using(crate::proofs::Two::short_reads))]
 pub fn one_digit(text: &[u8], at: usize) -> Short
     ensures { result ≡ short_of 1 1 (drop at text.now) }
 {
@@ -72,7 +72,7 @@ pub fn one_digit(text: &[u8], at: usize) -> Short
 }
 
 // A number of one digit or two. Which of the two cannot be guessed, so nothing branches on it.
-#[tactic(auto, using(buffers::proofs::Laws::has_room, buffers::proofs::Laws::no_room, crate::proofs::Two::no_text, crate::proofs::Two::no_first, crate::proofs::Two::leading_zero))]
+#[tactic(auto, using(crate::proofs::Two::short_reads))]
 pub fn two_digits(text: &[u8], at: usize) -> Short
     ensures { result ≡ short_of 2 2 (drop at text.now) }
 {

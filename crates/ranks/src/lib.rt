@@ -38,7 +38,8 @@ fn if_below(other: u64, key: u64, count: usize) -> usize
 // How many keys are below `key`, which is at most the last of them; that one is below 2^63.
 fn rank_by_bits(keys: &[u64], n: usize, key: u64) -> usize
     requires in_order { (n ≤ length keys.now) × Ordered 0 (take n keys.now) × (1 ≤ n) }
-    requires at_most_last { (key ≤ slice_index keys.now (n - 1)) × (slice_index keys.now (n - 1) < 9223372036854775808) }
+    requires at_most_last { (key ≤ slice_index keys.now (n - 1))
+        × (slice_index keys.now (n - 1) < 9223372036854775808) }
     ensures { (result ≡ rank_of key (take n keys.now)) × (result ≤ n) }
 {
     let mut lo = 0;

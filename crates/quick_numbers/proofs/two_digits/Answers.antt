@@ -1,4 +1,5 @@
--- Where the two branches on the second digit join. The names of the test stand in the `use` line and behind `elim` alone.
+-- Where the two branches on the second digit join. The names of the test stand in the `use` line and behind `elim`
+-- alone.
 use Rattle.std.proofs.Common.{arith, length, ⊎_elim}
 use Rattle.buffers.proofs.Laws.{has_room}
 use Rattle.quick_numbers.proofs.Two.{first_alone, two_digits}
