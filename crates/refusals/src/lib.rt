@@ -7,7 +7,10 @@
 ghost use Rattle.std.specs.Prelude.{◌≡◌, ◌<◌};
 ghost use Rattle.refusals.specs.Refusal.{refusal_number};
 
-#[derive(Drop)]
+use std::error::Error;
+use std::fmt;
+
+#[derive(Clone, Copy, Debug, PartialEq, Eq)]
 pub enum Refusal {
     Malformed,
     TransactionOutOfRange,
@@ -26,24 +29,76 @@ pub enum Refusal {
     BufferTooShort,
 }
 
-// The row's number, as outputs print it: one or two digits.
-pub fn refusal_number(refusal: Refusal) -> u64
-    ensures { (result ≡ refusal_number refusal) × (result < 100) }
-{
-    match refusal {
-        Refusal::Malformed => 1,
-        Refusal::TransactionOutOfRange => 2,
-        Refusal::AlreadyBegun => 3,
-        Refusal::NotBegun => 4,
-        Refusal::Aborting => 5,
-        Refusal::NotAborting => 6,
-        Refusal::CueOutOfRange => 7,
-        Refusal::Blocked(_) => 8,
-        Refusal::LocksFull => 9,
-        Refusal::UndoLogFull => 10,
-        Refusal::ScriptFull => 11,
-        Refusal::QueueFull => 12,
-        Refusal::TextTooLong => 13,
-        Refusal::BufferTooShort => 14,
+impl Refusal {
+    // The row's number, as outputs print it: one or two digits.
+    pub fn number(self) -> u64
+        ensures is_the_row { result ≡ refusal_number self }
+        ensures two_digits { result < 100 }
+    {
+        match self {
+            Refusal::Malformed => 1,
+            Refusal::TransactionOutOfRange => 2,
+            Refusal::AlreadyBegun => 3,
+            Refusal::NotBegun => 4,
+            Refusal::Aborting => 5,
+            Refusal::NotAborting => 6,
+            Refusal::CueOutOfRange => 7,
+            Refusal::Blocked(_) => 8,
+            Refusal::LocksFull => 9,
+            Refusal::UndoLogFull => 10,
+            Refusal::ScriptFull => 11,
+            Refusal::QueueFull => 12,
+            Refusal::TextTooLong => 13,
+            Refusal::BufferTooShort => 14,
+        }
     }
 }
+
+impl From<Refusal> for u64 {
+    ghost from_gives = { λ refusal number. number ≡ refusal_number refusal };
+
+    fn from(refusal: Refusal) -> u64 {
+        refusal.number()
+    }
+}
+
+impl fmt::Display for Refusal {
+    fn fmt<W: fmt::Write>(&self, f: &mut fmt::Formatter<W>) -> fmt::Result {
+        match self {
+            Refusal::Malformed => write!(f, "malformed line or unknown word"),
+            Refusal::TransactionOutOfRange => write!(f, "edit number not 1 to 8"),
+            Refusal::AlreadyBegun => write!(f, "the edit has begun already"),
+            Refusal::NotBegun => write!(f, "the edit has not begun"),
+            Refusal::Aborting => write!(f, "the edit is being undone"),
+            Refusal::NotAborting => write!(f, "the edit is not being undone"),
+            Refusal::CueOutOfRange => write!(f, "cue number out of range"),
+            Refusal::Blocked(holder) => write!(f, "edit {holder} holds a lock in the way"),
+            Refusal::LocksFull => write!(f, "the edit has 24 cue locks already"),
+            Refusal::UndoLogFull => write!(f, "the edit has 16 log entries already"),
+            Refusal::ScriptFull => write!(f, "all 256 places of the script are taken"),
+            Refusal::QueueFull => write!(f, "all 64 places of the queue are taken"),
+            Refusal::TextTooLong => write!(f, "more than 65,536 bytes"),
+            Refusal::BufferTooShort => write!(f, "the buffer is too short"),
+        }
+    }
+}
+
+impl Error for Refusal {}
+
+// Why a text is refused: the first row that one of its lines meets, and the number of that line, from 1; line 0 where
+// no line is to blame.
+#[derive(Clone, Copy, Debug, PartialEq, Eq)]
+pub struct RefusedText {
+    pub refusal: Refusal,
+    pub line: usize,
+}
+
+impl fmt::Display for RefusedText {
+    fn fmt<W: fmt::Write>(&self, f: &mut fmt::Formatter<W>) -> fmt::Result {
+        let refusal = self.refusal;
+        let line = self.line;
+        write!(f, "line {line}: {refusal}")
+    }
+}
+
+impl Error for RefusedText {}
