@@ -17,7 +17,7 @@ use Rattle.refusals.specs.declared.Refusal.TheVariants.{
 }
 use Rattle.refusals.specs.declared.Refusal.TheVariants.{Malformed as MalformedLine, Aborting as IsAborting}
 use Rattle.cues.specs.Cue.{in_range, key_of}
-use Rattle.steps.specs.declared.reading.CueNumbers.{CueNumbers}
+use Rattle.cues.specs.declared.CueNumbers.{CueNumbers}
 use Rattle.steps.specs.declared.reading.Step.{Step}
 use Rattle.steps.specs.declared.reading.Step.TheVariants.{WithNumber, WithCue, Malformed}
 use Rattle.step_words.specs.declared.NumberWord.{NumberWord}

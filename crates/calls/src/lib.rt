@@ -15,7 +15,7 @@ ghost use Rattle.calls.specs.Replies.{model_reply};
 
 use answers::Answer;
 use counted_tables::{has_key, insert_key, put_once, remove_key, remove_least};
-use cues::key_cue;
+use cues::Cue;
 use store_words::Call;
 use undo_logs::{Entry, Newest};
 
@@ -97,7 +97,7 @@ pub fn answer_of(reply: Reply) -> Answer
         Reply::No => Answer::No,
         Reply::Ok => Answer::Ok,
         Reply::Empty => Answer::Empty,
-        Reply::Cue(key) => Answer::Cue(key_cue(key)),
+        Reply::Cue(key) => Answer::Cue(Cue::of_key(key)),
     }
 }
 

@@ -1,2 +1,3 @@
 pub mod Cue
+pub mod Ranged
 pub mod Theorems

@@ -8,44 +8,65 @@
 ghost use Rattle.std.specs.Prelude.{◌≡◌};
 ghost use Rattle.cues.specs.Cue.{in_range, key_of, cue_of};
 
-#[derive(Clone, Copy)]
+use refusals::Refusal;
+
+#[derive(Clone, Copy, Debug, PartialEq, Eq, PartialOrd, Ord)]
 pub struct Cue {
     pub time: u32,
     pub module: u8,
     pub pin: u8,
 }
 
-pub fn in_range(time: u64, module: u64, pin: u64) -> bool
-    ensures { result ≡ in_range time «module» pin }
-{
-    if 3599999 < time {
-        return false;
+impl Cue {
+    pub fn key(self) -> u64
+        ensures { result ≡ key_of self }
+    {
+        (u64::from(self.time) * 256 + u64::from(self.module)) * 256 + u64::from(self.pin)
     }
-    if module < 1 {
-        return false;
+
+    // The cue of a key. Any number will do; the keys of cues give those cues back.
+    pub fn of_key(key: u64) -> Cue
+        ensures { result ≡ cue_of key }
+    {
+        Cue {
+            time: (key / 65536 % 4294967296) as u32,
+            module: (key / 256 % 256) as u8,
+            pin: (key % 256) as u8,
+        }
     }
-    if 99 < module {
-        return false;
-    }
-    if pin < 1 {
-        return false;
-    }
-    pin <= 32
 }
 
-pub fn cue_key(cue: Cue) -> u64
-    ensures { result ≡ key_of cue }
-{
-    ((cue.time as u64) * 256 + (cue.module as u64)) * 256 + (cue.pin as u64)
+// The three numbers of a cue as they were read, whatever their range.
+#[derive(Clone, Copy, Debug, PartialEq, Eq)]
+pub struct CueNumbers {
+    pub time: u64,
+    pub module: u64,
+    pub pin: u64,
 }
 
-// The cue of a key. Any number will do; the keys of cues give those cues back.
-pub fn key_cue(key: u64) -> Cue
-    ensures { result ≡ cue_of key }
-{
-    Cue {
-        time: (key / 65536 % 4294967296) as u32,
-        module: (key / 256 % 256) as u8,
-        pin: (key % 256) as u8,
+impl CueNumbers {
+    pub fn in_range(self) -> bool
+        ensures { result ≡ in_range self.time self.«module» self.pin }
+    {
+        self.time <= 3_599_999 && (1..=99).contains(&self.module) && (1..=32).contains(&self.pin)
+    }
+}
+
+impl TryFrom<CueNumbers> for Cue {
+    ghost use Rattle.cues.specs.Ranged.{GivesCue};
+
+    type Error = Refusal;
+
+    ghost try_from_gives = { GivesCue };
+
+    fn try_from(numbers: CueNumbers) -> Result<Cue, Refusal> {
+        if !numbers.in_range() {
+            return Err(Refusal::CueOutOfRange);
+        }
+        Ok(Cue {
+            time: numbers.time as u32,
+            module: numbers.module as u8,
+            pin: numbers.pin as u8,
+        })
     }
 }

@@ -22,7 +22,7 @@ ghost use Rattle.lock_listing.specs.Listed.{
 
 use buffers::{Written, fits, write_bytes};
 use cue_texts::{cue_length, write_cue};
-use cues::key_cue;
+use cues::Cue;
 use digits::digit_count;
 use records::write_field;
 use refusals::Refusal;
@@ -42,7 +42,7 @@ const LOCK_COUNT: usize = 60;
 fn lock_length(e: u64, key: u64) -> usize
     ensures { (result ≡ length (lock_line e key)) × (result ≤ 89) }
 {
-    digit_count(e) + cue_length(key_cue(key)) + 6
+    digit_count(e) + cue_length(Cue::of_key(key)) + 6
 }
 
 // How many bytes the line of a mode has; a mode that is not held has none.
@@ -118,7 +118,7 @@ fn put_lock(buf: &mut [u8], at: usize, e: u64, key: u64) -> usize
     ensures { Put buf.old at (lock_line e key) result buf.new }
 {
     let middle = put_start(buf, at, b"lock,", e);
-    let Written::Upto(end) = write_cue(buf, middle, key_cue(key)) else {
+    let Written::Upto(end) = write_cue(buf, middle, Cue::of_key(key)) else {
         return at;
     };
     end

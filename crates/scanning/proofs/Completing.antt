@@ -13,7 +13,7 @@ use Rattle.lines.proofs.Laws.{up_append, none_append, none_one}
 use Rattle.digits.specs.Digits.{digits_of}
 use Rattle.digits.proofs.Laws.{none_digits}
 use Rattle.records.specs.Record.{field_text}
-use Rattle.steps.specs.declared.reading.CueNumbers.{CueNumbers}
+use Rattle.cues.specs.declared.CueNumbers.{CueNumbers}
 use Rattle.steps.specs.declared.reading.Step.{Step}
 use Rattle.steps.specs.declared.reading.Step.TheVariants.{WithNumber, WithCue, Malformed}
 use Rattle.step_words.specs.declared.NumberWord.{NumberWord}

@@ -9,10 +9,11 @@ ghost use Rattle.scanning.specs.Quick.{RestFits, QuickFits};
 
 use crate::Scanned;
 use buffers::fits;
+use cues::CueNumbers;
 use lines::LF;
 use quick_numbers::{Short, one_digit, seven_digits, two_digits};
 use quick_words::{QuickWord, cue_word, number_word, quick_word, word_length};
-use steps::{CueNumbers, Step};
+use steps::Step;
 
 const COMMA: u8 = 44;
 

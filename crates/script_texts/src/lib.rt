@@ -12,7 +12,7 @@ ghost use Rattle.scripts.specs.ScriptText.{text_of};
 
 use buffers::{Written, fits};
 use cue_texts::{cue_length, write_cue};
-use cues::key_cue;
+use cues::Cue;
 use refusals::Refusal;
 use scripts::Script;
 
@@ -40,7 +40,7 @@ pub fn cues_length(keys: &[u64], n: usize) -> usize
     let mut sum = 0;
     let mut i = 0;
     while i < count {
-        sum += cue_length(key_cue(keys[i]));
+        sum += cue_length(Cue::of_key(keys[i]));
         i += 1;
     }
     sum
@@ -56,7 +56,7 @@ fn put_cues(buf: &mut [u8], at: usize, keys: &[u64], n: usize) -> usize
     let mut end = at;
     let mut i = 0;
     while i < count {
-        let Written::Upto(next) = write_cue(buf, end, key_cue(keys[i])) else {
+        let Written::Upto(next) = write_cue(buf, end, Cue::of_key(keys[i])) else {
             return end;
         };
         end = next;

@@ -7,7 +7,6 @@ ghost use Rattle.scripts.specs.Script.{keys_of, by_key, by_line, read_from, scri
 ghost use Rattle.scripts.specs.Count.{taken, counted, TakenFits, CountedFits};
 
 use cue_lines::{CueLine, read_cue};
-use cues::cue_key;
 use lines::find_byte;
 use ranks::{rank, stands_at};
 use refusals::Refusal;
@@ -80,7 +79,7 @@ fn take_line(keys: &mut [u64], n: usize, line: &[u8]) -> Taken
         × TakenFits result }
 {
     match read_cue(line) {
-        CueLine::InRange(cue) => take_key(keys, n, cue_key(cue)),
+        CueLine::InRange(cue) => take_key(keys, n, cue.key()),
         CueLine::Refused(refusal) => Taken::Refused(refusal),
     }
 }

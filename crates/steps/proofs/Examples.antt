@@ -7,7 +7,7 @@ use Rattle.lines.specs.Ascii.{bytes}
 use Rattle.lines.specs.Lines.{up_to}
 use Rattle.numbers.specs.Number.{value_from, number_of}
 use Rattle.cue_lines.specs.CueLine.{fields_of}
-use Rattle.steps.specs.declared.reading.CueNumbers.{CueNumbers}
+use Rattle.cues.specs.declared.CueNumbers.{CueNumbers}
 use Rattle.steps.specs.declared.reading.Step.{Step}
 use Rattle.steps.specs.declared.reading.Step.TheVariants.{WithNumber, WithCue, Malformed}
 use Rattle.step_words.specs.declared.NumberWord.TheVariants.{Begin, Min, Take, Commit, Undo, Back}

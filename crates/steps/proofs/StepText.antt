@@ -23,7 +23,7 @@ use Rattle.numbers.proofs.Theorems.{write_then_read, read_is_canonical}
 use Rattle.numbers.specs.Field.{field}
 use Rattle.cue_lines.specs.CueLine.{others, three_numbers, fields_of}
 use Rattle.cue_lines.specs.declared.Fields.TheVariants.{Numbers}
-use Rattle.steps.specs.declared.reading.CueNumbers.{CueNumbers}
+use Rattle.cues.specs.declared.CueNumbers.{CueNumbers}
 use Rattle.step_words.specs.declared.NumberWord.{NumberWord}
 use Rattle.step_words.specs.declared.CueWord.{CueWord}
 use Rattle.steps.specs.declared.reading.Step.TheVariants.{WithNumber, WithCue}

@@ -14,7 +14,7 @@ use Rattle.cue_lines.specs.CueLine.{others, fields_of}
 use Rattle.cue_lines.specs.declared.Fields.{Fields}
 use Rattle.cue_lines.specs.declared.Fields.TheVariants.{Numbers}
 use Rattle.cue_lines.specs.declared.Fields.TheVariants.{Malformed as NoCue}
-use Rattle.steps.specs.declared.reading.CueNumbers.{CueNumbers}
+use Rattle.cues.specs.declared.CueNumbers.{CueNumbers}
 use Rattle.step_words.specs.declared.NumberWord.{NumberWord}
 use Rattle.step_words.specs.declared.NumberWord.TheVariants.{
   Begin as begin,

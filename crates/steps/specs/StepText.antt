@@ -2,7 +2,7 @@
 use Rattle.std.specs.Prelude.{ℕ, ◌<◌, List, [], ◌∷◌, ◌++◌}
 use Rattle.digits.specs.Digits.{digits_of}
 use Rattle.records.specs.Record.{field_text}
-use Rattle.steps.specs.declared.reading.CueNumbers.{CueNumbers}
+use Rattle.cues.specs.declared.CueNumbers.{CueNumbers}
 use Rattle.steps.specs.declared.reading.Step.{Step}
 use Rattle.steps.specs.declared.reading.Step.TheVariants.{WithNumber, WithCue, Malformed}
 use Rattle.step_words.specs.Word.{number_word, cue_word}

@@ -7,4 +7,4 @@
 
 mod reading;
 
-pub use reading::{CueNumbers, Step, read_step};
+pub use reading::{Step, read_step};

@@ -6,19 +6,12 @@ ghost use Rattle.numbers.specs.Number.{number_of};
 ghost use Rattle.steps.specs.Field.{field_at, FieldWithin};
 ghost use Rattle.steps.specs.Step.{numbered, cued, step_of};
 
+use cues::CueNumbers;
 use lines::find_byte;
 use numbers::{Number, read_number};
 use step_words::{CueWord, NumberWord, Word, read_word};
 
 const COMMA: u8 = 44;
-
-// The cue of a step line as raw numbers, whatever their range.
-#[derive(Clone, Copy)]
-pub struct CueNumbers {
-    pub time: u64,
-    pub module: u64,
-    pub pin: u64,
-}
 
 // A step is its word and its numbers. The first number is the transaction's, which the papers call the edit's, whatever
 // its range.

@@ -11,7 +11,7 @@ use Rattle.cues.proofs.Laws.{bounds}
 use Rattle.step_words.specs.declared.CueWord.{CueWord}
 use Rattle.steps.specs.declared.reading.Step.{Step}
 use Rattle.steps.specs.declared.reading.Step.TheVariants.{WithCue}
-use Rattle.steps.specs.declared.reading.CueNumbers.{CueNumbers}
+use Rattle.cues.specs.declared.CueNumbers.{CueNumbers}
 use Rattle.boosting.specs.Object.{Call}
 use Rattle.boosting.specs.Store.{Store}
 use Rattle.boosting.specs.Rows.{call, request, cue_call, request_of, first_met, refusal_of}

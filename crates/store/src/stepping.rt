@@ -10,11 +10,11 @@ ghost use Rattle.store.specs.Stepped.{Asks, Stepped};
 
 use admission::{Admission, refusal_of};
 use answers::Answer;
-use cues::{Cue, cue_key, in_range};
+use cues::{Cue, CueNumbers};
 use performing::perform;
 use refusals::Refusal;
 use step_words::{CueWord, NumberWord};
-use steps::{CueNumbers, Step, read_step};
+use steps::{Step, read_step};
 use store_words::{Action, Call, Request};
 
 // The key of a cue's numbers where they are in range. Of others it does not matter: row 7 or an earlier one is met.
@@ -22,18 +22,19 @@ fn key_of(cue: CueNumbers) -> u64
     ensures { in_range cue.time cue.«module» cue.pin ≡ true
         → result ≡ key_of (record { time = cue.time; «module» = cue.«module»; pin = cue.pin }) }
 {
-    cue_key(Cue {
+    let cue = Cue {
         time: (cue.time % 4294967296) as u32,
         module: (cue.module % 256) as u8,
         pin: (cue.pin % 256) as u8,
-    })
+    };
+    cue.key()
 }
 
 // Whether the call's cue is in range, and the call.
 fn on_cue(cue: CueNumbers, call: Call) -> Action
     ensures { result ≡ Action.OnObject (in_range cue.time cue.«module» cue.pin) call }
 {
-    Action::OnObject(in_range(cue.time, cue.module, cue.pin), call)
+    Action::OnObject(cue.in_range(), call)
 }
 
 // What a word asks for that has only the transaction's number behind it.

@@ -17,7 +17,7 @@ cue-written : (c : After-write_cue) → ◌≡◌ {A = Written × List ℕ} (c.w
     (written_at c.put_start-middle.new.buf c.put_start-middle.result (cue_text (cue_of c.args.key)))
 cue-written c =
     c.write_cue.ensures
-    ∙ ap (λ (y : Cue). written_at c.put_start-middle.new.buf c.put_start-middle.result (cue_text y)) c.key_cue.ensures
+    ∙ ap (λ (y : Cue). written_at c.put_start-middle.new.buf c.put_start-middle.result (cue_text y)) c.of_key.ensures
 
 pub returns-in_default : goal.returns-in_default
 returns-in_default c =

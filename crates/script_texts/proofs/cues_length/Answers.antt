@@ -10,8 +10,8 @@ pub loop-i-preserved : goal.loop-i-preserved
 loop-i-preserved c =
     let a = c.args in
     let h : c.loop-i.i < length (keys_in a.keys.now a.n) = omega arith in
-    let e : length (cue_text c.key_cue.result) ≡ length (cue_text (cue_of (get_or a.keys.now c.loop-i.i 0)))
-    = ap (λ (x : Cue). length (cue_text x)) c.key_cue.ensures in
+    let e : length (cue_text c.of_key.result) ≡ length (cue_text (cue_of (get_or a.keys.now c.loop-i.i 0)))
+    = ap (λ (x : Cue). length (cue_text x)) c.of_key.ensures in
     let t = text_more_length a.keys.now a.n c.loop-i.i h in
     let r = c.cue_length-sum.ensures in
     (omega arith, c.loop-i.invariant.1, c.loop-i.invariant.2, c.loop-i.invariant.3, omega (arith, r.1), omega (arith, r.0, c.loop-i.invariant.5))

@@ -9,12 +9,12 @@ use Rattle.script_texts.proofs.put_cues.Goals as goal
 use Rattle.script_texts.proofs.put_cues.Goals.{After-write_cue}
 
 -- so there is room for it
-cue-fits : (c : After-write_cue) → c.loop-i.end + length (cue_text c.key_cue.result) ≤ length c.loop-i.buf
+cue-fits : (c : After-write_cue) → c.loop-i.end + length (cue_text c.of_key.result) ≤ length c.loop-i.buf
 cue-fits c =
     let cue-next : c.loop-i.i < length (keys_in c.args.keys.now c.args.n) = (omega arith) in
     let a = c.args in
     let t = text_more_length a.keys.now a.n c.loop-i.i (cue-next) in
-    omega (arith, t, ap (λ (x : Cue). length (cue_text x)) c.key_cue.ensures, c.loop-i.invariant.4)
+    omega (arith, t, ap (λ (x : Cue). length (cue_text x)) c.of_key.ensures, c.loop-i.invariant.4)
 
 -- what is left starts with the cue at hand
 cue-next : (c : After-write_cue) → c.loop-i.i < length (keys_in c.args.keys.now c.args.n)
@@ -28,10 +28,10 @@ returns-in_default c =
 pub loop-i-preserved : goal.loop-i-preserved
 loop-i-preserved c =
     let a = c.args in
-    let text = cue_text c.key_cue.result in
+    let text = cue_text c.of_key.result in
     let h = (cue-next (goal.at.loop-i-preserved c).After-write_cue) in
     let t = text_more_length a.keys.now a.n c.loop-i.i h in
-    let q = ap cue_text c.key_cue.ensures in
+    let q = ap cue_text c.of_key.ensures in
     let f = put_there c.loop-i.buf c.write_cue.new.buf text c.write_cue.result c.loop-i.end _ (cue-fits (goal.at.loop-i-preserved c).After-write_cue) c.write_cue.ensures c.in-Upto.is in (
       omega arith,
       c.loop-i.invariant.1,
@@ -39,7 +39,7 @@ loop-i-preserved c =
       c.write_cue.auto.buf ∙ c.loop-i.invariant.3,
       omega (arith, t, f.0, ap length q, c.loop-i.invariant.4),
       text_more_stored a.keys.now a.n c.loop-i.i h c.loop-i.buf c.write_cue.new.buf c.loop-i.end _
-          (f.0 ∙ ap (λ (y : Cue). c.loop-i.end + length (cue_text y)) c.key_cue.ensures)
+          (f.0 ∙ ap (λ (y : Cue). c.loop-i.end + length (cue_text y)) c.of_key.ensures)
           (f.1 ∙ ap (sets c.loop-i.buf c.loop-i.end) q)
           ∙ c.loop-i.invariant.5,
     )
