@@ -1,0 +1,2 @@
+-- What stays when keys come and go.
+pub mod Keys
