@@ -60,6 +60,24 @@ impl<const N: usize> SortedKeys<N> {
         stands_at(&self.keys, self.count, at, key)
     }
 
+    // Takes all keys out.
+    #[inline(always)]
+    pub fn clear(&mut self)
+        ensures { self.new ≡ [] }
+    {
+        self.count = 0;
+    }
+
+    // Takes these keys in place of its own.
+    pub fn copy_from(&mut self, keys: &[u64])
+        requires fits { length keys.now ≤ N }
+        requires in_order { Ordered 0 keys.now }
+        ensures { self.new ≡ keys.now }
+    {
+        self.keys[..keys.len()].copy_from_slice(keys);
+        self.count = keys.len();
+    }
+
     // Puts the key in its place, beside an equal one too. There has to be room.
     pub fn insert(&mut self, key: u64)
         requires { length self.old < N }
