@@ -1,4 +1,3 @@
--- Laws of the locks that are held; the folders beside them hold the proofs of the functions.
-pub mod Sieve
-pub mod Modes
-pub mod Full
+-- Laws of the sieve and of a search; the folder beside them holds a search's invariant.
+pub mod Sieves
+pub mod Searches

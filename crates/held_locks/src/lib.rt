@@ -1,81 +1,183 @@
-// The locks that a transaction holds: whether one is held, is in the way of another, or would be one too many.
+// The locks that a transaction holds: cue locks, each once and at most 24, and the queue's modes.
 //
-// The transaction is in its 64 lent words (`transactions`, specs/View), and no word is altered here. A `requires` asks
-// for what opening and stepping establish: that the counts are in range, and that the sieve has the bit of each cue
-// lock.
+// Clauses see them as the model's `Locks`. The sieve, a word with a bit for each cue lock, is no part of that: it rules
+// most keys out at a glance, and that no cue lock falls through it is the type's invariant.
 #![tactic(auto)]
 
-ghost use Rattle.std.specs.Prelude.{◌≡◌, false, not, ◌||◌, nat_eq};
+ghost use Rattle.std.specs.Prelude.{◌≡◌, ◌<◌, ◌≤◌, ◌^◌, false, length};
+ghost use Rattle.std.specs.Int.Bits.{bit_or};
 ghost use Rattle.tables.specs.Table.{member_of};
-ghost use Rattle.boosting.specs.Locks.{conflicts};
+ghost use Rattle.boosting.specs.Locks.{no_locks, hold, conflicts};
 ghost use Rattle.boosting.specs.Room.{locks_full};
-ghost use Rattle.transactions.specs.View.{WordsFit, transaction_of, passes};
-ghost use Rattle.transactions.specs.Code.{model_lock};
+ghost use Rattle.held_locks.specs.Sieve.{sieve_bit, passes};
 
-use transactions::{LOCK_COUNT, LOOKS, Lock, PUSHES, SIEVE, TAKES, sieve_bit};
+use arrayvec::ArrayVec;
+use std::marker::Model;
+use vocabulary::Lock;
 
-// Whether a cue lock with this key can be held: the sieve has the key's bit. Where it has not, the lock is not held.
-pub fn may_hold(t: &[u64; 64], key: u64) -> bool
-    requires { WordsFit t.now }
-    ensures { (result ≡ passes t.now key)
-        × (result ≡ false → member_of key (transaction_of t.now).locks.cues ≡ false) }
-{
-    (t[SIEVE] >> sieve_bit(key)) % 2 == 1
+#[derive(Drop)]
+pub struct HeldLocks {
+    cues: ArrayVec<u64, 24>,
+    pushes: bool,
+    looks: bool,
+    takes: bool,
+    sieve: u64,
 }
 
-// Whether a cue lock with this key is held.
-pub fn holds_cue(t: &[u64; 64], key: u64) -> bool
-    requires { WordsFit t.now }
-    ensures { result ≡ member_of key (transaction_of t.now).locks.cues }
+impl Model for HeldLocks {
+    ghost use Rattle.boosting.specs.Locks.{Locks};
+    ghost use Rattle.held_locks.specs.Sieve.{Sieved};
+
+    ghost Value = { Locks };
+
+    ghost view = { λ l. record { cues = l.cues.items; pushes = l.pushes; looks = l.looks; takes = l.takes } };
+
+    ghost invariant = { λ l. Sieved l.sieve l.cues.items };
+}
+
+// The bit of a key in the sieve: the sum of the low bits of its pin and of its time, which costs no multiplication.
+#[inline(always)]
+pub fn sieve_bit(key: u64) -> u64
+    ensures value { result ≡ sieve_bit key }
+    ensures fits { result < 64 }
 {
-    if !may_hold(t, key) {
-        return false;
-    }
-    let n = t[LOCK_COUNT] as usize;
-    let mut j = 0;
-    while j < n {
-        if t[j] == key {
-            return true;
+    (key % 64 + key / 65536 % 64) % 64
+}
+
+// Whether the sieve has the key's bit.
+#[inline(always)]
+fn passes(sieve: u64, key: u64) -> bool
+    ensures { result ≡ passes sieve key }
+{
+    (sieve >> sieve_bit(key)) % 2 == 1
+}
+
+// The sieve with the key's bit set.
+#[inline(always)]
+#[tactic(auto, using(crate::proofs::Sieves::bit_made))]
+fn with_bit(sieve: u64, key: u64) -> u64
+    ensures { result ≡ bit_or sieve (2 ^ sieve_bit key) }
+{
+    sieve | (1 << sieve_bit(key))
+}
+
+#[tactic(auto, using(crate::proofs::Sieves::sieve_rules, crate::proofs::Searches::search_rules), unfolding(boosting::specs::Locks::no_locks, boosting::specs::Locks::hold, boosting::specs::Locks::conflicts))]
+impl HeldLocks {
+    pub fn new() -> Self
+        ensures { result ≡ no_locks }
+    {
+        HeldLocks {
+            cues: ArrayVec::new(),
+            pushes: false,
+            looks: false,
+            takes: false,
+            sieve: 0,
         }
-        j += 1;
     }
-    false
-}
 
-// Whether one of two modes is held, by their words and without a branch.
-fn any_held(a: u64, b: u64) -> bool
-    ensures { result ≡ (not (nat_eq a 0) || not (nat_eq b 0)) }
-{
-    (a | b) != 0
-}
-
-// Whether the lock is in conflict with one that this transaction holds.
-pub fn in_conflict(t: &[u64; 64], lock: Lock) -> bool
-    requires { WordsFit t.now }
-    ensures { result ≡ conflicts (model_lock lock) (transaction_of t.now).locks }
-{
-    match lock {
-        Lock::Cue(key) => holds_cue(t, key),
-        Lock::Push => any_held(t[LOOKS], t[TAKES]),
-        Lock::Look => any_held(t[PUSHES], t[TAKES]),
-        Lock::Take => any_held(t[PUSHES], t[LOOKS] | t[TAKES]),
+    // Lets all locks go.
+    pub fn clear(&mut self)
+        ensures { self.new ≡ no_locks }
+    {
+        self.cues.clear();
+        self.pushes = false;
+        self.looks = false;
+        self.takes = false;
+        self.sieve = 0;
     }
-}
 
-// Whether the lock would be the 25th on a cue.
-pub fn locks_full(t: &[u64; 64], lock: Lock) -> bool
-    requires { WordsFit t.now }
-    ensures { result ≡ locks_full (model_lock lock) (transaction_of t.now).locks }
-{
-    match lock {
-        Lock::Cue(key) => {
-            if t[LOCK_COUNT] < 24 {
-                return false;
+    // The keys of the cue locks, the oldest first.
+    pub fn cues(&self) -> &[u64]
+        ensures value { result.now ≡ self.now.cues }
+        ensures fits { length result.now ≤ 24 }
+    {
+        self.cues.as_slice()
+    }
+
+    // Whether the queue's mode push is held.
+    pub fn pushes(&self) -> bool
+        ensures { result ≡ self.now.pushes }
+    {
+        self.pushes
+    }
+
+    // Whether the queue's mode look is held.
+    pub fn looks(&self) -> bool
+        ensures { result ≡ self.now.looks }
+    {
+        self.looks
+    }
+
+    // Whether the queue's mode take is held.
+    pub fn takes(&self) -> bool
+        ensures { result ≡ self.now.takes }
+    {
+        self.takes
+    }
+
+    // Whether a cue lock with this key may be held, by the sieve alone. Where this is false, it is not.
+    #[inline(always)]
+    pub fn may_hold(&self, key: u64) -> bool
+        ensures { result ≡ false → member_of key self.now.cues ≡ false }
+    {
+        passes(self.sieve, key)
+    }
+
+    // Whether a cue lock with this key is held.
+    pub fn holds_cue(&self, key: u64) -> bool
+        ensures { result ≡ member_of key self.now.cues }
+    {
+        if !self.may_hold(key) {
+            return false;
+        }
+        for held in self.cues() {
+            if *held == key {
+                return true;
             }
-            !holds_cue(t, key)
         }
-        Lock::Push => false,
-        Lock::Look => false,
-        Lock::Take => false,
+        false
+    }
+
+    // Whether the lock is in conflict with one of these.
+    #[inline(always)]
+    pub fn conflicts(&self, lock: Lock) -> bool
+        ensures { result ≡ conflicts lock self.now }
+    {
+        match lock {
+            Lock::Cue(key) => self.holds_cue(key),
+            Lock::Push => self.looks | self.takes,
+            Lock::Look => self.pushes | self.takes,
+            Lock::Take => self.pushes | self.looks | self.takes,
+        }
+    }
+
+    // Whether the lock would be the 25th on a cue.
+    #[inline(always)]
+    pub fn is_full(&self, lock: Lock) -> bool
+        ensures { result ≡ locks_full lock self.now }
+    {
+        match lock {
+            Lock::Cue(key) => self.cues.is_full() && !self.holds_cue(key),
+            Lock::Push | Lock::Look | Lock::Take => false,
+        }
+    }
+
+    // Holds the lock, once, besides those that were. There has to be room.
+    #[inline(always)]
+    pub fn hold(&mut self, lock: Lock)
+        requires { locks_full lock self.old ≡ false }
+        ensures { self.new ≡ hold lock self.old }
+    {
+        match lock {
+            Lock::Cue(key) => {
+                if !self.holds_cue(key) {
+                    self.cues.push(key);
+                    self.sieve = with_bit(self.sieve, key);
+                }
+            }
+            Lock::Push => self.pushes = true,
+            Lock::Look => self.looks = true,
+            Lock::Take => self.takes = true,
+        }
     }
 }

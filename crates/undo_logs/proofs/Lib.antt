@@ -1,3 +1,2 @@
--- Laws of the log's words.
-pub mod Logs
-pub mod Rollback
+-- What is true of the takes of a log.
+pub mod Takes

@@ -1,2 +1,2 @@
--- What the code's enums mean.
-pub mod Code
+-- The definitions that the contracts cite.
+pub mod Log

@@ -1,151 +1,103 @@
-// The undo log of one transaction, in the transaction's 64 lent words (`transactions`, specs/View).
+// The undo log of one transaction: what its accepted calls changed, at most 16 entries.
 //
-// Each function reads the log, or does to the words what the model does to a transaction: an entry noted, the newest
-// dropped, a rollback step. A `requires` asks for what opening and stepping establish.
+// Clauses see the entries as the model does, newest first. How many of them note a take is counted as they come and go,
+// since each keeps a slot of the queue; that the count is right is the type's invariant.
 #![tactic(auto)]
 
-ghost use Rattle.std.specs.Prelude.{◌≡◌, ◌<◌, ◌≤◌, length};
-ghost use mathlib.Core.List.{head?};
-ghost use Rattle.boosting.specs.Store.{aborting};
+ghost use Rattle.std.specs.Prelude.{◌≡◌, ◌<◌, ◌≤◌, [], ◌∷◌, length, reverse};
 ghost use Rattle.boosting.specs.Room.{takes_by};
-ghost use Rattle.transactions.specs.View.{
-  WordsFit,
-  Made,
-  transaction_of,
-  entry_from,
-  entry_at,
-  with_entry,
-  without_newest,
-  unwound_once,
-};
-ghost use Rattle.undo_logs.specs.Code.{model_entry, model_newest};
+ghost use Rattle.undo_logs.specs.Log.{newest, older};
 
-use transactions::ENTRY_COUNT;
+use entries::Entries;
+use std::marker::Model;
+use vocabulary::Entry;
 
-// What the undo log notes of a call that changed something, with the cue's key.
+mod entries;
+
 #[derive(Drop)]
-pub enum Entry {
-    Added(u64),
-    Removed(u64),
-    Pushed(u64),
-    Taken(u64),
+pub struct UndoLog {
+    entries: Entries,
+    takes: u8,
 }
 
-// The newest entry of a log, if there is one.
-#[derive(Drop)]
-pub enum Newest {
-    Entry(Entry),
-    Nothing,
+impl Model for UndoLog {
+    ghost use Rattle.std.specs.Prelude.{◌≡◌, ◌≤◌, List, length, reverse};
+    ghost use Rattle.vocabulary.specs.declared.Entry.{Entry as ModelEntry};
+    ghost use Rattle.boosting.specs.Room.{takes_by};
+
+    ghost Value = { List ModelEntry };
+
+    ghost view = { λ l. reverse l.entries };
+
+    ghost invariant = { λ l. (length l.entries ≤ 16) × (l.takes ≡ takes_by (reverse l.entries)) };
 }
 
-// Where the entries' keys and kinds are.
-const ENTRY_KEYS: usize = 24;
-
-const ENTRY_KINDS: usize = 40;
-
-// What an entry's kind says.
-const ADDED: u64 = 0;
-
-const REMOVED: u64 = 1;
-
-const PUSHED: u64 = 2;
-
-const TAKEN: u64 = 3;
-
-// How many entries the log has.
-pub fn entry_count(t: &[u64; 64]) -> usize
-    requires { WordsFit t.now }
-    ensures { (result ≡ length (transaction_of t.now).log) × (result ≤ 16) }
-{
-    t[ENTRY_COUNT] as usize
-}
-
-// The entry at a place of the log, the oldest at 0.
-pub fn entry_at(t: &[u64; 64], j: usize) -> Entry
-    requires { j < 16 }
-    ensures { model_entry result ≡ entry_at j t.now }
-{
-    let key = t[ENTRY_KEYS + j];
-    match t[ENTRY_KINDS + j] {
-        ADDED => Entry::Added(key),
-        REMOVED => Entry::Removed(key),
-        PUSHED => Entry::Pushed(key),
-        _ => Entry::Taken(key),
-    }
-}
-
-// The newest entry, which is undone first.
-pub fn newest_entry(t: &[u64; 64]) -> Newest
-    requires { WordsFit t.now }
-    ensures { model_newest result ≡ head? (transaction_of t.now).log }
-{
-    let n = entry_count(t);
-    if n == 0 {
-        return Newest::Nothing;
-    }
-    Newest::Entry(entry_at(t, n - 1))
-}
-
-// One more entry, of this kind and key.
-fn note_words(t: &mut [u64; 64], kind: u64, key: u64)
-    requires { WordsFit t.old × (length (transaction_of t.old).log < 16) }
-    ensures { Made t.new (with_entry (entry_from kind key) (transaction_of t.old)) }
-{
-    let n = t[ENTRY_COUNT] as usize;
-    t[ENTRY_KEYS + n] = key;
-    t[ENTRY_KINDS + n] = kind;
-    t[ENTRY_COUNT] = (n + 1) as u64;
-}
-
-// The log notes one more entry.
-pub fn note(t: &mut [u64; 64], entry: Entry)
-    requires { WordsFit t.old × (length (transaction_of t.old).log < 16) }
-    ensures { Made t.new (with_entry (model_entry entry) (transaction_of t.old)) }
-{
-    match entry {
-        Entry::Added(key) => note_words(t, ADDED, key),
-        Entry::Removed(key) => note_words(t, REMOVED, key),
-        Entry::Pushed(key) => note_words(t, PUSHED, key),
-        Entry::Taken(key) => note_words(t, TAKEN, key),
-    }
-}
-
-// The log loses its newest entry, if there is one.
-pub fn drop_newest(t: &mut [u64; 64])
-    requires { WordsFit t.old }
-    ensures { Made t.new (without_newest (transaction_of t.old)) }
-{
-    let n = t[ENTRY_COUNT];
-    if n != 0 {
-        t[ENTRY_COUNT] = n - 1;
-    }
-}
-
-// The newest entry is undone: the log loses it, and with no entry left the transaction closes.
-pub fn unwind(t: &mut [u64; 64])
-    requires words_fit { WordsFit t.old }
-    requires is_aborting { (transaction_of t.old).standing ≡ aborting }
-    ensures { Made t.new (unwound_once (transaction_of t.old)) }
-{
-    drop_newest(t);
-    if entry_count(t) == 0 {
-        transactions::close(t);
-    }
-}
-
-// How many of the log's entries note a take: each keeps a slot of the queue.
-pub fn take_count(t: &[u64; 64]) -> usize
-    requires { WordsFit t.now }
-    ensures { (result ≡ takes_by (transaction_of t.now).log) × (result ≤ 16) }
-{
-    let n = t[ENTRY_COUNT] as usize;
-    let mut takes: usize = 0;
-    let mut j = 0;
-    while j < n {
-        if TAKEN <= t[ENTRY_KINDS + j] {
-            takes += 1;
+#[tactic(auto, using(crate::proofs::Takes::takes_rules), unfolding(boosting::specs::Room::takes_by))]
+impl UndoLog {
+    pub fn new() -> Self
+        ensures { result ≡ [] }
+    {
+        UndoLog {
+            entries: Entries::new(),
+            takes: 0,
         }
-        j += 1;
     }
-    takes
+
+    // Takes all entries out.
+    pub fn clear(&mut self)
+        ensures { self.new ≡ [] }
+    {
+        self.entries.clear();
+        self.takes = 0;
+    }
+
+    // How many entries there are.
+    pub fn len(&self) -> usize
+        ensures value { result ≡ length self.now }
+        ensures fits { result ≤ 16 }
+    {
+        self.entries().len()
+    }
+
+    // How many entries note a take.
+    pub fn takes(&self) -> u8
+        ensures value { result ≡ takes_by self.now }
+        ensures fits { result ≤ 16 }
+    {
+        self.takes
+    }
+
+    // The entries, the oldest first.
+    pub fn entries(&self) -> &[Entry]
+        ensures value { reverse result.now ≡ self.now }
+        ensures fits { length result.now ≤ 16 }
+    {
+        self.entries.as_slice()
+    }
+
+    // Notes one more entry. There has to be room.
+    #[inline(always)]
+    pub fn note(&mut self, entry: Entry)
+        requires { length self.old < 16 }
+        ensures { self.new ≡ entry ∷ self.old }
+    {
+        match entry {
+            Entry::Taken(_) => self.takes += 1,
+            Entry::Added(_) | Entry::Removed(_) | Entry::Pushed(_) => {}
+        }
+        self.entries.push(entry);
+    }
+
+    // Takes out the newest entry, if there is one.
+    pub fn take_newest(&mut self) -> Option<Entry>
+        ensures newest { result ≡ newest self.old }
+        ensures rest { self.new ≡ older self.old }
+    {
+        let entry = self.entries.pop()?;
+        match entry {
+            Entry::Taken(_) => self.takes -= 1,
+            Entry::Added(_) | Entry::Removed(_) | Entry::Pushed(_) => {}
+        }
+        Some(entry)
+    }
 }
