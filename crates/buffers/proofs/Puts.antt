@@ -5,9 +5,8 @@ use Prim.Native.Nat.{ℕ, ◌+◌, ◌≤◌}
 use native.Mathlib.Omega.{arith}
 use lib.ListN.{length, length-append}
 use lib.Seq.{sets, length-sets}
+use Rattle.std.specs.Prelude.{Result, Ok, Err}
 use Rattle.refusals.specs.declared.Refusal.{Refusal}
-use Rattle.buffers.specs.declared.Written.{Written}
-use Rattle.buffers.specs.declared.Written.TheVariants.{Upto, Refused}
 use Rattle.buffers.specs.Put.{Put}
 use Rattle.buffers.specs.Written.{written_at}
 use Rattle.buffers.proofs.Answers.{put_there, not_refused}
@@ -15,15 +14,15 @@ use Rattle.buffers.proofs.Laws.{sets-append, written}
 
 -- ---- one text
 -- a writer that had room put the text there
-pub wrote : (buf mid text : List ℕ) (r : Written) (at end : ℕ) → at + length text ≤ length buf
-    → (r, mid) ≡ written_at buf at text → r ≡ Upto end → Put buf at text end mid
+pub wrote : (buf mid text : List ℕ) (r : Result ℕ Refusal) (at end : ℕ) → at + length text ≤ length buf
+    → (r, mid) ≡ written_at buf at text → r ≡ Ok end → Put buf at text end mid
 wrote buf mid text r at end h e q =
     let p = put_there buf mid text r at end h e q in
     record { place = p.0; stored = p.1 }
 
 -- and a text put where it fits is what a writer answers
 pub put_written : (buf mid text : List ℕ) (at end : ℕ) → at + length text ≤ length buf → Put buf at text end mid
-    → (Upto end, mid) ≡ written_at buf at text
+    → (Ok end, mid) ≡ written_at buf at text
 put_written buf mid text at end h p = written buf mid text at end h p.place p.stored
 
 pub Put-room : (buf mid text : List ℕ) (at end : ℕ) → Put buf at text end mid → length mid ≡ length buf
@@ -58,10 +57,10 @@ module _ (buf u v all : List ℕ) (at : ℕ) (q : all ≡ u ++ v) where
     both_put after end r = record { place = r.place ∙ rest_ends; stored = r.stored ∙ rest_stored }
 
     -- the same, where the second part is handed to a writer
-    module _ (h : at + length all ≤ length buf) (after : List ℕ) (r : Written)
+    module _ (h : at + length all ≤ length buf) (after : List ℕ) (r : Result ℕ Refusal)
         (w : (r, after) ≡ written_at mid middle v) where
-      pub rest_refused : (why : Refusal) → r ≡ Refused why → ⊥
+      pub rest_refused : (why : Refusal) → r ≡ Err why → ⊥
       rest_refused why = not_refused mid after v r middle why (rest_fits h) w
 
-      pub rest_written : (end : ℕ) → r ≡ Upto end → Put buf at all end after
+      pub rest_written : (end : ℕ) → r ≡ Ok end → Put buf at all end after
       rest_written end g = both_put after end (wrote mid after v r middle end (rest_fits h) w g)
