@@ -10,7 +10,7 @@ use Rattle.refusals.specs.declared.Refusal.{Refusal}
 use Rattle.buffers.specs.Put.{Put}
 use Rattle.buffers.specs.Written.{written_at}
 use Rattle.buffers.proofs.Answers.{put_there, not_refused}
-use Rattle.buffers.proofs.Laws.{sets-append, written}
+use Rattle.buffers.proofs.Laws.{sets-append, written, written_back}
 
 -- ---- one text
 -- a writer that had room put the text there
@@ -33,6 +33,20 @@ pub put_as : (buf mid u v : List ℕ) (at end : ℕ) → u ≡ v → Put buf at 
 put_as buf mid u v at end e p = subst (λ (x : List ℕ). Put buf at x end mid) e p
 
 -- ---- a text in two parts, one behind the other
+-- where both fit, what the second writer answers and leaves is what one writer of the whole would
+pub both_written : (buf mid after u v : List ℕ) (r₁ r₂ : Result ℕ Refusal) (at middle : ℕ)
+    → at + (length u + length v) ≤ length buf → (r₁, mid) ≡ written_at buf at u → r₁ ≡ Ok middle
+    → (r₂, after) ≡ written_at mid middle v → (r₂, after) ≡ written_at buf at (u ++ v)
+both_written buf mid after u v r₁ r₂ at middle h e₁ q e₂ =
+    let p = put_there buf mid u r₁ at middle (omega arith) e₁ q in
+    let room : middle + length v ≤ length mid = omega (arith, p.0, ap length p.1 ∙ length-sets buf at u) in
+    let w = written_back r₂ mid after v middle room e₂ in
+    let n = length-append u v in
+    let all : after ≡ sets buf at (u ++ v) = w.1 ∙ rw (p.0, p.1) (sym (sets-append u v buf at)) in
+    let d : (Ok (middle + length v), after) ≡ written_at buf at (u ++ v)
+    = written buf after (u ++ v) at (middle + length v) (omega arith) (omega (arith, p.0)) all in
+    (λ i. (w.0 i, after)) ∙ d
+
 module _ (buf u v all : List ℕ) (at : ℕ) (q : all ≡ u ++ v) where
   both : length all ≡ length u + length v
   both = ap length q ∙ length-append u v

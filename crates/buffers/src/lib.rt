@@ -6,7 +6,7 @@
 // No public function has a `requires`.
 #![tactic(auto)]
 
-ghost use Rattle.std.specs.Prelude.{◌≡◌, ◌+◌, nat_le, length};
+ghost use Rattle.std.specs.Prelude.{◌≡◌, ◌+◌, ◌++◌, nat_le, length};
 ghost use Rattle.buffers.specs.Written.{written_at};
 
 use refusals::Refusal;
@@ -35,4 +35,15 @@ pub fn write_bytes(buf: &mut [u8], at: usize, bytes: &[u8]) -> Result<usize, Ref
     let end = at + bytes.len();
     buf[at..end].copy_from_slice(bytes);
     Ok(end)
+}
+
+// Writes two stretches of bytes, one behind the other, if both fit.
+pub fn write_both(buf: &mut [u8], at: usize, first: &[u8], second: &[u8]) -> Result<usize, Refusal>
+    ensures { (result, buf.new) ≡ written_at buf.old at (first.now ++ second.now) }
+{
+    if fits(buf.len(), at, first.len() + second.len()) {
+        let middle = write_bytes(buf, at, first)?;
+        return write_bytes(buf, middle, second);
+    }
+    Err(Refusal::BufferTooShort)
 }
