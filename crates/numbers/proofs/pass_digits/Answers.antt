@@ -1,5 +1,5 @@
 -- `numbers::pass_digits` meets its contract: what the digits passed so far come to, at each way out.
-use Rattle.std.proofs.Common.{arith, get_or, length, ◌+◌, ◌-◌, ◌≡◌, ◌<◌, ◌≤◌}
+use Rattle.std.proofs.Common.{arith, get_or, ◌≡◌, ◌<◌}
 use Rattle.numbers.proofs.FieldLaws.{lead_high, lead_low, Passed-all, Passed-end, Passed-many, Passed-more}
 use Rattle.numbers.proofs.pass_digits.Goals as goal
 
