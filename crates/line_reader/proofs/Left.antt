@@ -9,7 +9,8 @@ use Rattle.line_reader.specs.declared.LineReader.{LineReader}
 use Rattle.line_reader.specs.Reader.{place_after, Taken, lines_left}
 
 module _ (s : List ℕ) (at : ℕ) where
-  abbrev to : Line
+  -- the line at the place
+  abbrev pub to : Line
   to = line_to at (at + up_to 10 (drop at s))
 
   read : (t : Bool) (line : Line) → ltb at (length s) ≡ t → cond {A = Option Line} t (Some to) None ≡ Some line
@@ -21,19 +22,26 @@ module _ (s : List ℕ) (at : ℕ) where
   unread true e f = let z : ◌≡◌ {A = ℕ} 0 1 = cc in absurd (omega arith)
   unread false e f = ltb-false _ _ e
 
+  -- a line was read: there is one, and it is the one up to the next LF
+  pub line_read : (line : Line) → line_at s at ≡ Some line → (at < length s) × (to ≡ line)
+  line_read line e = read (ltb at (length s)) line refl e
+
+  pub none_read : line_at s at ≡ None → length s ≤ at
+  none_read e = unread (ltb at (length s)) refl e
+
   pub left_none : line_at s at ≡ None → lines_of (drop at s) ≡ []
-  left_none e = lines_end s at (unread (ltb at (length s)) refl e)
+  left_none e = lines_end s at (none_read e)
 
   pub left_first : (line : Line) → line_at s at ≡ Some line
       → lines_of (drop at s) ≡ take (line.end - line.start) (drop line.start s) ∷ lines_of (drop line.next s)
   left_first line e =
-      let r = read (ltb at (length s)) line refl e in
+      let r = line_read line e in
       let n : at + up_to 10 (drop at s) - at ≡ up_to 10 (drop at s) = omega arith in
       lines_next s at r.0 ∙ rw (← r.1, n)
 
   pub line_within : (line : Line) → line_at s at ≡ Some line → (line.start ≤ line.end) × (line.end ≤ length s)
   line_within line e =
-      let r = read (ltb at (length s)) line refl e in
+      let r = line_read line e in
       let within : at + up_to 10 (drop at s) ≤ length s = omega (arith, r.0, up_le 10 (drop at s), length-drop at s) in
       rw (← r.1) (omega arith, within)
 
