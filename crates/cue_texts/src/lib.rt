@@ -30,7 +30,8 @@ pub fn cue_length(cue: Cue) -> usize
 // The line of a cue, with its LF.
 #[tactic(auto, unfolding(crate::specs::CueText::cue_text))]
 pub fn cue_line(cue: Cue) -> LineBuffer
-    ensures { result ≡ cue_text cue }
+    ensures text { result ≡ cue_text cue }
+    ensures short { length result ≤ 63 }
 {
     let mut line = LineBuffer::new();
     line.push_field(u64::from(cue.time), b',');

@@ -15,7 +15,7 @@ pub use line_buffer::LineBuffer;
 use refusals::Refusal;
 
 // The digits of n and a byte behind them.
-fn field_line(n: u64, behind: u8) -> LineBuffer
+pub fn field_line(n: u64, behind: u8) -> LineBuffer
     ensures { result ≡ field_text n behind }
 {
     let mut line = LineBuffer::new();
