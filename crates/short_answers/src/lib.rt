@@ -1,8 +1,8 @@
 // Answers to steps, appended quickly: most have a short line.
 //
 // Where twelve bytes fit, as the longest short line has, its bytes are stored straight: no more tests of the room, and
-// no digits counted. The compiler makes one store of the bytes of each `put_bytes`. Any other line is left to `answers`. Only
-// a place is answered, which stays in a register. The public function has no `requires`.
+// no digits counted. The compiler makes one store of the bytes of each `put_bytes`. Any other line is left to
+// `answers`. Only a place is answered, which stays in a register. The public function has no `requires`.
 #![tactic(auto)]
 
 ghost use Rattle.std.specs.Prelude.{◌≡◌, ◌∷◌, ◌++◌, ◌+◌, ◌≤◌, ◌<◌, length};
