@@ -11,6 +11,6 @@ pub fn eight_bytes(text: &[u8], at: usize) -> Option<u64>
     ensures number { result ≡ eight_at text.now at }
     ensures bytes { at + 8 ≤ length text.now → AllBytes (take 8 (drop at text.now)) }
 {
-    let bytes = text.get(at..)?.first_chunk()?;
+    let bytes = text.get(at..)?.first_chunk::<8>()?;
     Some(u64::from_le_bytes(*bytes))
 }
