@@ -21,7 +21,7 @@ told l at [] n r = drop_of_length-le l {i = at} (omega arith)
 told l at (b ∷ text) n r = let rest = told l (suc at) text (omega arith) r.1 in drop-cons l at 0 (omega arith) ∙ cc (r.0)
 
 -- what `find` finds passes its test
-found : {A : Type 0} (test : A → Bool) (x : A) (xs : List A) → find test xs ≡ Some x → test x ≡ true
+pub found : {A : Type 0} (test : A → Bool) (x : A) (xs : List A) → find test xs ≡ Some x → test x ≡ true
 found test x [] e = absurd (cc)
 found test x (y ∷ xs) e = by_test (test y) refl e (found test x xs)
   where
