@@ -1,2 +1,2 @@
--- What the words show.
-pub mod View
+-- The definitions that the contracts cite.
+pub mod Steps
