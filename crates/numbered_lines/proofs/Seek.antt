@@ -1,4 +1,4 @@
--- Laws of `seek` over the lines of a text, and of `numbered`: what one turn of the count does.
+-- Laws of `seek` over the lines of a text: what one turn of the count does.
 -- Assumes nothing.
 use mathlib.Core.Path.{◌≡◌, refl, sym, ap, ◌∙◌}
 use mathlib.Core.List.{List}
@@ -8,9 +8,9 @@ use lib.ListN.{length, take, drop}
 use lib.Seq.{length-take-le}
 use denote.Ref.{Bor}
 use Rattle.lines.specs.Lines.{up_to, lines_of}
-use Rattle.numbered_lines.specs.Numbered.{seek, Within, in_start, numbered}
+use Rattle.numbered_lines.specs.Numbered.{seek, Within}
 use native.Mathlib.Omega.{arith}
-use Rattle.std.specs.Prelude.{Option, Some, None, Result, Ok, Err}
+use Rattle.std.specs.Prelude.{Option, Some, None, Ok, Err}
 use Rattle.line_reader.specs.declared.LineReader.{LineReader}
 use Rattle.line_reader.specs.Reader.{place_after, Taken}
 use Rattle.line_reader.proofs.Left.{line_read, none_read, line_within}
@@ -69,12 +69,3 @@ module _ (s : List ℕ) (before after : LineReader) (read : Option Line) (t : Ta
 
   pub none_here : (k : ℕ) → read ≡ None → Err k ≡ seek before.at (lines_of (drop before.at s)) k
   none_here k e = sym (seek_none s before.at k (none_read s before.at (rw (← same) (sym t.is ∙ e))))
-
-pub found_within : (s : List ℕ) (r : Result Line ℕ) (line : Line) → r ≡ Ok line → Within s r
-    → (line.start ≤ line.end) × (line.end ≤ length s)
-found_within s r line q w = rw q at w
-
-pub numbered_more : (x y : Bor (List ℕ)) (n : ℕ) → (n ≡ 0 → ⊥)
-    → numbered x y n ≡ in_start x y (seek 0 (lines_of x.now) (n - 1))
-numbered_more x y zero h = absurd (h refl)
-numbered_more x y (suc k) h = rw sub-one
