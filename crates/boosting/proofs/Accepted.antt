@@ -4,7 +4,7 @@ use Prim.Native.Nat.{ℕ}
 use mathlib.Core.Path.{◌≡◌, refl, sym, ap}
 use mathlib.Core.Bool.{Bool, true, false, not, ◌&&◌}
 use mathlib.Core.List.{List, [], ◌∷◌}
-use mathlib.Core.Option.{Option, none, some}
+use Rattle.std.specs.Prelude.{Option, None, Some}
 use native.Mathlib.Omega.{arith}
 use Rattle.refusals.specs.declared.Refusal.{Refusal}
 use Rattle.refusals.specs.declared.Refusal.TheVariants.{Malformed as MalformedLine}
@@ -21,7 +21,6 @@ use Rattle.boosting.specs.Rows.{
   roll_back,
   call,
   Request,
-  malformed,
   request,
   is_closed,
   is_aborting,
@@ -38,15 +37,15 @@ use Rattle.boosting.specs.Step.{perform, refuse, step_on}
 -- no row is met
 abbrev AllNone : List (Option Refusal) → Type 0
 AllNone [] = Unit {0}
-AllNone (row ∷ rows) = (row ≡ none) × AllNone rows
+AllNone (row ∷ rows) = (row ≡ None) × AllNone rows
 
-all_none : (rows : List (Option Refusal)) → first_met rows ≡ none → AllNone rows
+all_none : (rows : List (Option Refusal)) → first_met rows ≡ None → AllNone rows
 unfolding first_met
 all_none [] h = tt
-all_none (none ∷ rows) h = (refl, all_none rows h)
-all_none (some r ∷ rows) h = absurd (let z : ◌≡◌ {A = ℕ} 0 1 = cc in omega arith)
+all_none (None ∷ rows) h = (refl, all_none rows h)
+all_none (Some r ∷ rows) h = absurd (let z : ◌≡◌ {A = ℕ} 0 1 = cc in omega arith)
 
-when-none : (b : Bool) (r : Refusal) → when b r ≡ none → b ≡ false
+when-none : (b : Bool) (r : Refusal) → when b r ≡ None → b ≡ false
 when-none true r h = cc
 when-none false r h = refl
 
@@ -54,14 +53,14 @@ not-false : (b : Bool) → not b ≡ false → b ≡ true
 not-false true h = refl
 not-false false h = sym h
 
-free_none : (b : Option ℕ) → blocked_by b ≡ none → b ≡ none
-free_none none h = refl
-free_none (some f) h = cc
+free_none : (b : Option ℕ) → blocked_by b ≡ None → b ≡ None
+free_none None h = refl
+free_none (Some f) h = cc
 
 -- ---- what acceptance tells
 
 abbrev pub Accepts : Store → ℕ → Action → Type 0
-Accepts d e a = refusal_of d (request e a) ≡ none
+Accepts d e a = refusal_of d (request e a) ≡ None
 
 rows_of_lem : (d : Store) (e : ℕ) (a : Action) → Accepts d e a → AllNone (rows_of d e a)
 unfolding refusal_of
@@ -107,7 +106,7 @@ accepted_standing d e a h =
 -- what an accepted call found: its cue in range, no conflict, and room
 pub record CallAccepted (d : Store) (e : ℕ) (b : Bool) (c : Call) : Type 0 where
   pub in_range : b ≡ true
-  pub free : blocker e (lock_of c) 1 d.transactions ≡ none
+  pub free : blocker e (lock_of c) 1 d.transactions ≡ None
   pub locks : locks_full (lock_of c) (transaction d e).locks ≡ false
   pub log : log_full (entry_of c (reply c d.state)) (transaction d e).log ≡ false
   pub script : script_full (entry_of c (reply c d.state)) (reserved d) ≡ false
@@ -128,14 +127,14 @@ accepted_call d e b c h =
 
 -- ---- what is refused, and what is accepted
 
-pub malformed_refused : (d : Store) → refusal_of d malformed ≡ some MalformedLine
+pub malformed_refused : (d : Store) → refusal_of d None ≡ Some MalformedLine
 unfolding refusal_of
 malformed_refused d = refl
 
-pub step_refused : (d : Store) (q : Request) (r : Refusal) → refusal_of d q ≡ some r → step_on d q ≡ refuse d r
+pub step_refused : (d : Store) (q : Option Request) (r : Refusal) → refusal_of d q ≡ Some r → step_on d q ≡ refuse d r
 unfolding step_on
-step_refused d malformed r h = let e : MalformedLine ≡ r = cc (malformed_refused d) in ap (refuse d) e
-step_refused d (request e a) r h = rw h refl
+step_refused d None r h = let e : MalformedLine ≡ r = cc (malformed_refused d) in ap (refuse d) e
+step_refused d (Some q) r h = rw h refl
 
 pub step_accepted : (d : Store) (e : ℕ) (a : Action) → Accepts d e a → step_on d (request e a) ≡ perform d e a
 unfolding step_on

@@ -4,7 +4,7 @@ use Prim.Native.Nat.{ℕ, zero, suc, ◌+◌, ◌<◌}
 use mathlib.Core.Path.{◌≡◌, refl, sym, ap, ◌∙◌}
 use mathlib.Core.Bool.{Bool, true, false}
 use mathlib.Core.List.{List, [], ◌∷◌}
-use mathlib.Core.Option.{Option, none, some}
+use Rattle.std.specs.Prelude.{Option, None, Some}
 use native.Mathlib.Nat.{le_of_suc-le-suc, not-suc-le-zero}
 use native.Mathlib.Omega.{arith}
 use lib.Dec.{eqb}
@@ -81,15 +81,15 @@ module _ (e : ℕ) (k : Lock) (i : ℕ) (t : Transaction) (ts : List Transaction
       below zero h o = n (λ q. o (omega arith))
       below (suc g) h o = r.lowest g (le_of_suc-le-suc h) (λ q. o (omega arith))
 
-some_same : (a b : ℕ) → some a ≡ some b → a ≡ b
+some_same : (a b : ℕ) → Some a ≡ Some b → a ≡ b
 some_same a b h = cc
 
-none-some : (a : ℕ) → ◌≡◌ {A = Option ℕ} none (some a) → ⊥
+none-some : (a : ℕ) → ◌≡◌ {A = Option ℕ} None (Some a) → ⊥
 none-some a h =
     let z : ◌≡◌ {A = Bool} true false = cc in
     mathlib.Core.Bool.true≢false z
 
-found : (e : ℕ) (k : Lock) (i : ℕ) (ts : List Transaction) (f : ℕ) → blocker e k i ts ≡ some f → Found e k i ts f
+found : (e : ℕ) (k : Lock) (i : ℕ) (ts : List Transaction) (f : ℕ) → blocker e k i ts ≡ Some f → Found e k i ts f
 found e k i [] f h = absurd (none-some f (sym (blocker-none e k i) ∙ h))
 found e k i (t ∷ ts) f h =
     split (eqb i e)
@@ -114,25 +114,25 @@ found e k i (t ∷ ts) f h =
 finds : (e : ℕ) (k : Lock) (i : ℕ) (ts : List Transaction) (j : ℕ) → j < length ts → (i + j ≡ e → ⊥)
     → conflicts k (get_or ts j closed_transaction).locks ≡ true
     → ((g : ℕ) → g < j → (i + g ≡ e → ⊥) → conflicts k (get_or ts g closed_transaction).locks ≡ false)
-    → blocker e k i ts ≡ some (i + j)
+    → blocker e k i ts ≡ Some (i + j)
 finds e k i [] j h o c l = absurd (not-suc-le-zero h)
 finds e k i (t ∷ ts) zero h o c l =
     let at : i + 0 ≡ i = omega arith in
-    blocker_here e k i t ts (ne_eqb i e (λ q. o (at ∙ q))) c ∙ ap some (sym at)
+    blocker_here e k i t ts (ne_eqb i e (λ q. o (at ∙ q))) c ∙ ap Some (sym at)
 finds e k i (t ∷ ts) (suc j) h o c l =
     let at : suc i + j ≡ i + suc j = omega arith in
-    let ih : blocker e k (suc i) ts ≡ some (suc i + j) =
+    let ih : blocker e k (suc i) ts ≡ Some (suc i + j) =
     finds e k (suc i) ts j (le_of_suc-le-suc h) (λ q. o (sym at ∙ q)) c
     (λ g b n. l (suc g) (omega arith) (λ q. n (omega arith))) in
     split (eqb i e)
-    (λ q. blocker_own e k i t ts q ∙ ih ∙ ap some at)
-    (λ q. blocker_clear e k i t ts q (l 0 (omega arith) (λ z. eqb-false i e q (omega arith))) ∙ ih ∙ ap some at)
+    (λ q. blocker_own e k i t ts q ∙ ih ∙ ap Some at)
+    (λ q. blocker_clear e k i t ts q (l 0 (omega arith) (λ z. eqb-false i e q (omega arith))) ∙ ih ∙ ap Some at)
 
 -- ---- row 8 decides
 
 -- rows 9 to 12 say nothing of a conflict
 rest_of_rows : (f : ℕ) (a b c d : Bool)
-    → first_met (when a LocksFull ∷ when b UndoLogFull ∷ when c ScriptFull ∷ when d QueueFull ∷ []) ≡ some (Blocked f)
+    → first_met (when a LocksFull ∷ when b UndoLogFull ∷ when c ScriptFull ∷ when d QueueFull ∷ []) ≡ Some (Blocked f)
     → ⊥
 unfolding first_met
 rest_of_rows f true b c d h = mathlib.Core.Bool.true≢false (cc)
@@ -149,20 +149,20 @@ call_rows_lem d e c v s = rw (v, s)
 
 -- of rows of which the later ones say nothing of a conflict, the first decides
 module _ (f : ℕ) (rows : List (Option Refusal)) where
-  row_8_met : (o : Option ℕ) → (first_met rows ≡ some (Blocked f) → ⊥) → first_met (blocked_by o ∷ rows) ≡ some (Blocked f)
-      → o ≡ some f
+  row_8_met : (o : Option ℕ) → (first_met rows ≡ Some (Blocked f) → ⊥) → first_met (blocked_by o ∷ rows) ≡ Some (Blocked f)
+      → o ≡ Some f
   unfolding first_met
-  row_8_met none n h = absurd (n h)
-  row_8_met (some g) n h = cc
+  row_8_met None n h = absurd (n h)
+  row_8_met (Some g) n h = cc
 
-  row_8_meets : (o : Option ℕ) → o ≡ some f → first_met (blocked_by o ∷ rows) ≡ some (Blocked f)
+  row_8_meets : (o : Option ℕ) → o ≡ Some f → first_met (blocked_by o ∷ rows) ≡ Some (Blocked f)
   unfolding first_met
-  row_8_meets none h = absurd (none-some f h)
-  row_8_meets (some g) h = cc
+  row_8_meets None h = absurd (none-some f h)
+  row_8_meets (Some g) h = cc
 
 module _ (d : Store) (e f : ℕ) (c : Call) (v : valid e ≡ true) (s : (transaction d e).standing ≡ «open») where
   told_to_wait : (step_on d (request e (call true c))).answer ≡ Refused (Blocked f)
-      → blocker e (lock_of c) 1 d.transactions ≡ some f
+      → blocker e (lock_of c) 1 d.transactions ≡ Some f
   told_to_wait h =
       let t = transaction d e in
       let n = entry_of c (reply c d.state) in
@@ -171,7 +171,7 @@ module _ (d : Store) (e f : ℕ) (c : Call) (v : valid e ≡ true) (s : (transac
       (queue_full n (queue_slots d)))
       (sym (call_rows_lem d e c v s) ∙ (refused_exactly d (request e (call true c)) (Blocked f)).0 h)
 
-  must_wait : blocker e (lock_of c) 1 d.transactions ≡ some f
+  must_wait : blocker e (lock_of c) 1 d.transactions ≡ Some f
       → (step_on d (request e (call true c))).answer ≡ Refused (Blocked f)
   must_wait h =
       (refused_exactly d (request e (call true c)) (Blocked f)).1
@@ -206,7 +206,7 @@ in_the_way d e f k w r =
     below zero v h o = not_zero v
     below (suc g) v h o = rw (transaction_at d g) (r.lowest g (le_of_suc-le-suc h) (λ q. o (omega arith)))
 
-way_found : (d : Store) (e f : ℕ) (k : Lock) → Sound d → InTheWay d e k f → blocker e k 1 d.transactions ≡ some f
+way_found : (d : Store) (e f : ℕ) (k : Lock) → Sound d → InTheWay d e k f → blocker e k 1 d.transactions ≡ Some f
 way_found d e zero k w r = not_zero r.number
 way_found d e (suc j) k w r =
     let at : 1 + j ≡ suc j = omega arith in
@@ -216,7 +216,7 @@ way_found d e (suc j) k w r =
     (λ g h n.
     rw (← transaction_at d g)
     (r.lowest (suc g) (range_valid (suc g) (omega arith) (omega arith)) (omega arith) (λ q. n (omega arith))))
-    ∙ ap some at
+    ∙ ap Some at
 
 pub blocked_exactly : BlockedExactly
 blocked_exactly d e f c w v s = (

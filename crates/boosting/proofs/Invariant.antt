@@ -7,7 +7,7 @@ use mathlib.Core.Path.{◌≡◌, refl, sym, ap}
 use mathlib.Core.Bool.{Bool, true, false, cond}
 use mathlib.Core.List.{List, [], ◌∷◌, ◌++◌}
 use mathlib.Core.Logic.{inl, inr}
-use mathlib.Core.Option.{none}
+use Rattle.std.specs.Prelude.{None}
 use native.Mathlib.Omega.{arith}
 use lib.Dec.{eqb}
 use lib.ListN.{length, get_or}
@@ -70,7 +70,7 @@ open_log = refl
 abbrev locks_at : List Transaction → ℕ → Locks
 locks_at ts j = (get_or ts j closed_transaction).locks
 
-no_blocker : (e : ℕ) (k : Lock) (i : ℕ) (ts : List Transaction) → blocker e k i ts ≡ none → (j : ℕ)
+no_blocker : (e : ℕ) (k : Lock) (i : ℕ) (ts : List Transaction) → blocker e k i ts ≡ None → (j : ℕ)
     → (i + j ≡ e → ⊥) → conflicts k (locks_at ts j) ≡ false
 unfolding closed_transaction
 no_blocker e k i [] h j n = no_locks_no_conflict k
@@ -84,12 +84,12 @@ no_blocker e k i (t ∷ ts) h (suc j) n =
     go (eq_ne i e) (conflicts k t.locks) refl (λ h'. no_blocker e k (suc i) ts h' j (λ z. n (omega arith)))
   where
     go : EqNe i e → (b : Bool) → conflicts k t.locks ≡ b
-        → (blocker e k (suc i) ts ≡ none → conflicts k (locks_at ts j) ≡ false) → conflicts k (locks_at ts j) ≡ false
+        → (blocker e k (suc i) ts ≡ None → conflicts k (locks_at ts j) ≡ false) → conflicts k (locks_at ts j) ≡ false
     go (eq p) b c ih = ih (cc (blocker_own e k i t ts (eq-eqb i e p)))
     go (ne p) true c ih = cc (blocker_here e k i t ts (ne_eqb i e p) c)
     go (ne p) false c ih = ih (cc (blocker_clear e k i t ts (ne_eqb i e p) c))
 
-no_conflict : (d : Store) (e : ℕ) (k : Lock) → blocker e k 1 d.transactions ≡ none → (f : ℕ) → (f ≡ e → ⊥)
+no_conflict : (d : Store) (e : ℕ) (k : Lock) → blocker e k 1 d.transactions ≡ None → (f : ℕ) → (f ≡ e → ⊥)
     → conflicts k (transaction d f).locks ≡ false
 unfolding transaction closed_transaction
 no_conflict d e k h zero n = no_locks_no_conflict k
@@ -147,7 +147,7 @@ module _ (start : State) (g : Good start) (d : Store) (pending : ℕ → List It
     }
 
   -- an accepted call: it goes to the front of the trace
-  module _ (c : Call) (st : (transaction d e).standing ≡ «open») (free : blocker e (lock_of c) 1 d.transactions ≡ none)
+  module _ (c : Call) (st : (transaction d e).standing ≡ «open») (free : blocker e (lock_of c) 1 d.transactions ≡ None)
       (xst : x.standing ≡ «open») (xlk : x.locks ≡ hold (lock_of c) (transaction d e).locks)
       (xlog : x.log ≡ noted (entry_of c (reply c d.state)) (transaction d e).log)
       (new_state : d'.state ≡ effect c d.state) where

@@ -4,7 +4,7 @@ use Prim.Native.Nat.{ℕ, zero, suc, ◌+◌, ◌≤◌}
 use mathlib.Core.Path.{◌≡◌, refl, sym, ◌∙◌}
 use mathlib.Core.Bool.{Bool, true, false, cond, not, ◌&&◌, ◌||◌}
 use mathlib.Core.List.{List, [], ◌∷◌, ◌++◌}
-use mathlib.Core.Option.{Option, none, some}
+use Rattle.std.specs.Prelude.{Option, None, Some}
 use native.Mathlib.Omega.{arith}
 use lib.Dec.{eqb, leb}
 use lib.ListN.{length, get_or, set, length-set, length-append}
@@ -79,8 +79,8 @@ use Rattle.boosting.proofs.Accepted.{CallAccepted}
 -- ---- keys in range
 
 abbrev NotedKey : Option Entry → Type 0
-NotedKey none = Unit {0}
-NotedKey (some n) = CueKey (key_in n)
+NotedKey None = Unit {0}
+NotedKey (Some n) = CueKey (key_in n)
 
 all_once : (k : ℕ) (l : List ℕ) → CueKey k → AllCues l → AllCues (put_once_of k l)
 unfolding put_once_of
@@ -145,12 +145,12 @@ lock_held take l g f s = mode_held l (hold take_mode l) refl s
 
 noted_at_most : (n : Option Entry) (log : List Entry) → log_full n log ≡ false → length log ≤ 16
     → length (noted n log) ≤ 16
-noted_at_most none log f h = h
-noted_at_most (some n) log f h = omega (arith, leb-false 16 (length log) f)
+noted_at_most None log f h = h
+noted_at_most (Some n) log f h = omega (arith, leb-false 16 (length log) f)
 
 noted_in_range : (n : Option Entry) (log : List Entry) → NotedKey n → AllEntries log → AllEntries (noted n log)
-noted_in_range none log g a = a
-noted_in_range (some n) log g a = (g, a)
+noted_in_range None log g a = a
+noted_in_range (Some n) log g a = (g, a)
 
 -- ---- states
 
@@ -432,11 +432,11 @@ undo_sound d e (n ∷ log) v h q =
 
 -- the slots with that of a new entry
 abbrev slots_with : Option Entry → List ℕ → List ℕ
-slots_with none slots = slots
-slots_with (some (added k)) slots = put_once_of k slots
-slots_with (some (removed k)) slots = slots
-slots_with (some (pushed k)) slots = slots
-slots_with (some (taken k)) slots = slots
+slots_with None slots = slots
+slots_with (Some (added k)) slots = put_once_of k slots
+slots_with (Some (removed k)) slots = slots
+slots_with (Some (pushed k)) slots = slots
+slots_with (Some (taken k)) slots = slots
 
 once_at_most : (k : ℕ) (l : List ℕ) → (not (member_of k l) && leb 256 (length l)) ≡ false → length l ≤ 256
     → length (put_once_of k l) ≤ 256
@@ -449,19 +449,19 @@ once_at_most k l f h =
 
 slots_at_most : (n : Option Entry) (slots : List ℕ) → script_full n slots ≡ false → length slots ≤ 256
     → length (slots_with n slots) ≤ 256
-slots_at_most none slots f h = h
-slots_at_most (some (added k)) slots f h = once_at_most k slots f h
-slots_at_most (some (removed k)) slots f h = h
-slots_at_most (some (pushed k)) slots f h = h
-slots_at_most (some (taken k)) slots f h = h
+slots_at_most None slots f h = h
+slots_at_most (Some (added k)) slots f h = once_at_most k slots f h
+slots_at_most (Some (removed k)) slots f h = h
+slots_at_most (Some (pushed k)) slots f h = h
+slots_at_most (Some (taken k)) slots f h = h
 
 slots_kept : (n : Option Entry) (slots : List ℕ) (x : ℕ) → member_of x slots ≡ true
     → member_of x (slots_with n slots) ≡ true
-slots_kept none slots x m = m
-slots_kept (some (added k)) slots x m = member_once x k slots ∙ or_right (eqb k x) (member_of x slots) m
-slots_kept (some (removed k)) slots x m = m
-slots_kept (some (pushed k)) slots x m = m
-slots_kept (some (taken k)) slots x m = m
+slots_kept None slots x m = m
+slots_kept (Some (added k)) slots x m = member_once x k slots ∙ or_right (eqb k x) (member_of x slots) m
+slots_kept (Some (removed k)) slots x m = m
+slots_kept (Some (pushed k)) slots x m = m
+slots_kept (Some (taken k)) slots x m = m
 
 -- an added cue has its slot by the new entry
 script_with : (c : Call) (s : State) (slots : List ℕ) (x : ℕ)

@@ -7,7 +7,7 @@ use mathlib.Core.Path.{◌≡◌, refl, sym, ap, ◌∙◌}
 use mathlib.Core.Bool.{Bool, true, false, cond, ◌||◌}
 use mathlib.Core.List.{List, [], ◌∷◌, ◌++◌}
 use mathlib.Core.Logic.{◌⊎◌, inl, inr}
-use mathlib.Core.Option.{none, some}
+use Rattle.std.specs.Prelude.{None, Some}
 use native.Mathlib.Omega.{arith}
 use borrow.Author.Tests.{eq-eqb}
 use Rattle.tables.specs.Table.{From, Ordered, member_of, delete_of}
@@ -138,24 +138,24 @@ reply_not_refused (is_cue k) = refl
 
 -- ---- a call without an entry changes nothing
 
-idle_take : (s : State) → entry_of take (reply take s) ≡ none → tail s.queue ≡ s.queue
+idle_take : (s : State) → entry_of take (reply take s) ≡ None → tail s.queue ≡ s.queue
 unfolding entry_of reply
 idle_take s = go s.queue
   where
-    go : (q : List ℕ) → on_cue (least q) ≡ none → tail q ≡ q
+    go : (q : List ℕ) → on_cue (least q) ≡ None → tail q ≡ q
     go [] h = refl
     go (x ∷ q) h = cc
 
-pub idle : (c : Call) (s : State) → Good s → entry_of c (reply c s) ≡ none → effect c s ≡ s
+pub idle : (c : Call) (s : State) → Good s → entry_of c (reply c s) ≡ None → effect c s ≡ s
 unfolding effect entry_of reply
 idle (add k) s g h = go (member_of k s.script) refl h
   where
-    go : (b : Bool) → member_of k s.script ≡ b → on_yes (cond b is_no is_yes) (added k) ≡ none → effect (add k) s ≡ s
+    go : (b : Bool) → member_of k s.script ≡ b → on_yes (cond b is_no is_yes) (added k) ≡ None → effect (add k) s ≡ s
     go true e h' = λ i. record { script = once_in k s.script e i; queue = s.queue }
     go false e h' = cc
 idle (remove k) s g h = go (member_of k s.script) refl h
   where
-    go : (b : Bool) → member_of k s.script ≡ b → on_yes (cond b is_yes is_no) (removed k) ≡ none
+    go : (b : Bool) → member_of k s.script ≡ b → on_yes (cond b is_yes is_no) (removed k) ≡ None
         → effect (remove k) s ≡ s
     go true e h' = cc
     go false e h' = λ i. record { script = delete_absent k s.script e i; queue = s.queue }
@@ -166,12 +166,12 @@ idle take s g h = λ i. record { script = s.script; queue = idle_take s h i }
 
 -- ---- an inverse takes its entry's call back
 
-cancel_take : (s : State) (n : Entry) → Ordered 0 s.queue → entry_of take (reply take s) ≡ some n
+cancel_take : (s : State) (n : Entry) → Ordered 0 s.queue → entry_of take (reply take s) ≡ Some n
     → inverse n (effect take s) ≡ s
 unfolding entry_of reply effect inverse
 cancel_take s n o = go s.queue refl o
   where
-    go : (q : List ℕ) → s.queue ≡ q → Ordered 0 q → on_cue (least q) ≡ some n
+    go : (q : List ℕ) → s.queue ≡ q → Ordered 0 q → on_cue (least q) ≡ Some n
         → inverse n (record { script = s.script; queue = tail q }) ≡ s
     go [] e o h = cc
     go (x ∷ q) e o h =
@@ -179,11 +179,11 @@ cancel_take s n o = go s.queue refl o
         let f : From x q = From-weaken x _ q (omega arith) o.0 in
         rw m (λ i. record { script = s.script; queue = (insert_head x q f ∙ sym e) i })
 
-pub cancel : (c : Call) (s : State) (n : Entry) → Good s → entry_of c (reply c s) ≡ some n → inverse n (effect c s) ≡ s
+pub cancel : (c : Call) (s : State) (n : Entry) → Good s → entry_of c (reply c s) ≡ Some n → inverse n (effect c s) ≡ s
 unfolding effect entry_of reply inverse
 cancel (add k) s n g h = go (member_of k s.script) refl h
   where
-    go : (b : Bool) → member_of k s.script ≡ b → on_yes (cond b is_no is_yes) (added k) ≡ some n
+    go : (b : Bool) → member_of k s.script ≡ b → on_yes (cond b is_no is_yes) (added k) ≡ Some n
         → inverse n (effect (add k) s) ≡ s
     go true e h' = cc
     go false e h' =
@@ -192,7 +192,7 @@ cancel (add k) s n g h = go (member_of k s.script) refl h
         rw m (λ i. record { script = p i; queue = s.queue })
 cancel (remove k) s n g h = go (member_of k s.script) refl h
   where
-    go : (b : Bool) → member_of k s.script ≡ b → on_yes (cond b is_yes is_no) (removed k) ≡ some n
+    go : (b : Bool) → member_of k s.script ≡ b → on_yes (cond b is_yes is_no) (removed k) ≡ Some n
         → inverse n (effect (remove k) s) ≡ s
     go true e h' =
         let m : n ≡ removed k = cc in

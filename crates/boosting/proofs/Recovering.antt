@@ -4,7 +4,7 @@ use Prim.Native.Nat.{ℕ, zero, suc, ◌≤◌}
 use mathlib.Core.Path.{◌≡◌, refl, ap}
 use mathlib.Core.Bool.{Bool, true, false}
 use mathlib.Core.List.{List, [], ◌∷◌}
-use mathlib.Core.Option.{Option, none, some}
+use Rattle.std.specs.Prelude.{Option, None, Some}
 use native.Mathlib.Omega.{arith}
 use lib.ListN.{length, get_or, get_or-eq_default}
 use Rattle.refusals.specs.declared.Refusal.{Refusal}
@@ -85,8 +85,8 @@ module _ (start : State) (g : Good start) (pending : ℕ → List Item) (settled
     after_step a d v n keeps = record { kept = go (refusal_of d (request e a)) refl; stay = step_stays d e a n }
       where
         go : (o : Option Refusal) → refusal_of d (request e a) ≡ o → Inv (step_on d (request e a)).store
-        go (some r) h = rw (step_refused d (request e a) r h) v
-        go none h = rw (step_accepted d e a h) (keeps h)
+        go (Some r) h = rw (step_refused d (request e a) r h) v
+        go None h = rw (step_accepted d e a h) (keeps h)
 
     after_abort : (d : Store) → Inv d → Next d (aborted_at d e)
     after_abort d v =
@@ -105,7 +105,7 @@ module _ (start : State) (g : Good start) (pending : ℕ → List Item) (settled
       where
         go : (o : Option Refusal) → refusal_of d (request e abort) ≡ o
             → Unopen (aborted_at d e) × ((transaction (aborted_at d e) e).log ≡ (transaction d e).log)
-        go (some r) h =
+        go (Some r) h =
             rw (step_refused d (request e abort) r h, aborted_at) (
               (λ s.
                   let ok = unclosed_valid d e v.eight (open_unclosed (transaction d e).standing s) in
@@ -113,7 +113,7 @@ module _ (start : State) (g : Good start) (pending : ℕ → List Item) (settled
                   omega arith),
               refl,
             )
-        go none h =
+        go None h =
             let x = aborted (transaction d e) in
             let new = (changed d d.state e x v.eight (accepted_valid d e abort h)).new in
             rw (step_accepted d e abort h, aborted_at, new)

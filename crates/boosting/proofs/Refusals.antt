@@ -5,7 +5,7 @@ use mathlib.Core.Path.{◌≡◌, refl, sym, ap, ◌∙◌}
 use mathlib.Core.Bool.{Bool, true, false, not, ◌&&◌}
 use mathlib.Core.List.{List, [], ◌∷◌}
 use mathlib.Core.Logic.{inl, inr, ◌↔◌}
-use mathlib.Core.Option.{Option, none, some}
+use Rattle.std.specs.Prelude.{Option, None, Some}
 use Rattle.refusals.specs.declared.Refusal.{Refusal}
 use Rattle.refusals.specs.declared.Refusal.TheVariants.{
   TransactionOutOfRange,
@@ -24,7 +24,7 @@ use Rattle.refusals.specs.declared.Refusal.TheVariants.{
 use Rattle.refusals.specs.declared.Refusal.TheVariants.{Malformed as MalformedLine, Aborting as IsAborting}
 use Rattle.steps.specs.Step.{step_of}
 use Rattle.steps.specs.declared.reading.Step.{Step}
-use Rattle.steps.specs.declared.reading.Step.TheVariants.{WithNumber, WithCue, Malformed}
+use Rattle.steps.specs.declared.reading.Step.TheVariants.{WithNumber, WithCue}
 use Rattle.answers.specs.declared.Answer.TheVariants.{Refused}
 use Rattle.boosting.specs.Object.{reply}
 use Rattle.boosting.specs.Undo.{Entry, entry_of}
@@ -39,7 +39,6 @@ use Rattle.boosting.specs.Rows.{
   roll_back,
   call,
   Request,
-  malformed,
   request,
   request_of,
   is_closed,
@@ -80,30 +79,31 @@ perform_accepted d e roll_back = rw undo_accepted
 perform_accepted d e (call b c) = reply_not_refused (reply c d.state)
 
 -- a step is answered by no refusal exactly when it meets no row
-passed : (d : Store) (q : Request) → is_refused (step_on d q).answer ≡ false → refusal_of d q ≡ none
+passed : (d : Store) (q : Option Request) → is_refused (step_on d q).answer ≡ false → refusal_of d q ≡ None
 passed d q h = go (refusal_of d q) refl
   where
-    go : (o : Option Refusal) → refusal_of d q ≡ o → refusal_of d q ≡ none
-    go none e = e
-    go (some r) e = cc (ap (λ (o : Out). is_refused o.answer) (step_refused d q r e))
+    go : (o : Option Refusal) → refusal_of d q ≡ o → refusal_of d q ≡ None
+    go None e = e
+    go (Some r) e = cc (ap (λ (o : Out). is_refused o.answer) (step_refused d q r e))
 
-passes : (d : Store) (q : Request) → refusal_of d q ≡ none → is_refused (step_on d q).answer ≡ false
-passes d malformed h = cc (malformed_refused d)
-passes d (request e a) h = rw (step_accepted d e a h) (perform_accepted d e a)
+passes : (d : Store) (q : Option Request) → refusal_of d q ≡ None → is_refused (step_on d q).answer ≡ false
+passes d None h = cc (malformed_refused d)
+passes d (Some q) h =
+    rw (step_accepted d q.transaction q.action h) (perform_accepted d q.transaction q.action)
 
 pub accepted_exactly : AcceptedExactly
 accepted_exactly d q = (passed d q, passes d q)
 
 -- and by a refusal exactly when the first row that it meets says so
-met : (d : Store) (q : Request) (r : Refusal) → (step_on d q).answer ≡ Refused r → refusal_of d q ≡ some r
+met : (d : Store) (q : Option Request) (r : Refusal) → (step_on d q).answer ≡ Refused r → refusal_of d q ≡ Some r
 met d q r h = go (refusal_of d q) refl
   where
-    go : (o : Option Refusal) → refusal_of d q ≡ o → refusal_of d q ≡ some r
-    go none e = cc (passes d q e, ap is_refused h)
-    go (some s) e = cc (step_refused d q s e)
+    go : (o : Option Refusal) → refusal_of d q ≡ o → refusal_of d q ≡ Some r
+    go None e = cc (passes d q e, ap is_refused h)
+    go (Some s) e = cc (step_refused d q s e)
 
-pub refused_exactly : (d : Store) (q : Request) (r : Refusal)
-    → ((step_on d q).answer ≡ Refused r) ↔ (refusal_of d q ≡ some r)
+pub refused_exactly : (d : Store) (q : Option Request) (r : Refusal)
+    → ((step_on d q).answer ≡ Refused r) ↔ (refusal_of d q ≡ Some r)
 refused_exactly d q r = (met d q r, λ h. ap (λ (o : Out). o.answer) (step_refused d q r h))
 
 pub refusals_change_nothing : RefusalsChangeNothing
@@ -112,19 +112,19 @@ refusals_change_nothing d line r h =
     let q = request_of (step_of line) in
     ap (λ (o : Out). o.store) (step_refused d q r (met d q r h))
 
-first_is : (rows : List (Option Refusal)) (r : Refusal) → first_met rows ≡ some r → FirstOf rows r
+first_is : (rows : List (Option Refusal)) (r : Refusal) → first_met rows ≡ Some r → FirstOf rows r
 unfolding first_met
 first_is [] r h = absurd (let z : ◌≡◌ {A = Bool} true false = cc in mathlib.Core.Bool.true≢false z)
-first_is (none ∷ rows) r h = inr (refl, first_is rows r h)
-first_is (some s ∷ rows) r h = inl h
+first_is (None ∷ rows) r h = inr (refl, first_is rows r h)
+first_is (Some s ∷ rows) r h = inl h
 
-is_first : (rows : List (Option Refusal)) (r : Refusal) → FirstOf rows r → first_met rows ≡ some r
+is_first : (rows : List (Option Refusal)) (r : Refusal) → FirstOf rows r → first_met rows ≡ Some r
 unfolding first_met
 is_first [] r f = absurd f
-is_first (none ∷ rows) r (inl p) = cc
-is_first (none ∷ rows) r (inr f) = is_first rows r f.1
-is_first (some s ∷ rows) r (inl p) = p
-is_first (some s ∷ rows) r (inr f) = cc f.0
+is_first (None ∷ rows) r (inl p) = cc
+is_first (None ∷ rows) r (inr f) = is_first rows r f.1
+is_first (Some s ∷ rows) r (inl p) = p
+is_first (Some s ∷ rows) r (inr f) = cc f.0
 
 pub rows_decide : RowsDecide
 unfolding refusal_of
@@ -136,33 +136,33 @@ rows_decide d e a r =
 
 -- whether a refusal is that of a malformed line
 abbrev is_malformed : Option Refusal → Bool
-is_malformed none = false
-is_malformed (some MalformedLine) = true
-is_malformed (some TransactionOutOfRange) = false
-is_malformed (some AlreadyBegun) = false
-is_malformed (some NotBegun) = false
-is_malformed (some IsAborting) = false
-is_malformed (some NotAborting) = false
-is_malformed (some CueOutOfRange) = false
-is_malformed (some (Blocked e)) = false
-is_malformed (some LocksFull) = false
-is_malformed (some UndoLogFull) = false
-is_malformed (some ScriptFull) = false
-is_malformed (some QueueFull) = false
-is_malformed (some TextTooLong) = false
-is_malformed (some BufferTooShort) = false
+is_malformed None = false
+is_malformed (Some MalformedLine) = true
+is_malformed (Some TransactionOutOfRange) = false
+is_malformed (Some AlreadyBegun) = false
+is_malformed (Some NotBegun) = false
+is_malformed (Some IsAborting) = false
+is_malformed (Some NotAborting) = false
+is_malformed (Some CueOutOfRange) = false
+is_malformed (Some (Blocked e)) = false
+is_malformed (Some LocksFull) = false
+is_malformed (Some UndoLogFull) = false
+is_malformed (Some ScriptFull) = false
+is_malformed (Some QueueFull) = false
+is_malformed (Some TextTooLong) = false
+is_malformed (Some BufferTooShort) = false
 
 -- a row that speaks of something else leaves it to the later ones
 module _ (rows : List (Option Refusal)) (rest : is_malformed (first_met rows) ≡ false) where
-  over : (b : Bool) (r : Refusal) → is_malformed (some r) ≡ false → is_malformed (first_met (when b r ∷ rows)) ≡ false
+  over : (b : Bool) (r : Refusal) → is_malformed (Some r) ≡ false → is_malformed (first_met (when b r ∷ rows)) ≡ false
   unfolding first_met
   over true r h = h
   over false r h = rest
 
   over_8 : (o : Option ℕ) → is_malformed (first_met (blocked_by o ∷ rows)) ≡ false
   unfolding first_met
-  over_8 none = rest
-  over_8 (some f) = refl
+  over_8 None = rest
+  over_8 (Some f) = refl
 
 no_rows : is_malformed (first_met []) ≡ false
 unfolding first_met
@@ -202,16 +202,16 @@ well_formed d e a =
     (not (is_begin a) && is_closed s) (not (is_begin a) && not (is_roll_back a) && is_aborting s)
     (is_roll_back a && not (is_aborting s)) (not (cue_in_range a))
 
-malformed_request : (d : Store) (q : Request) → refusal_of d q ≡ some MalformedLine → q ≡ malformed
-malformed_request d malformed h = refl
-malformed_request d (request e a) h =
-    let z : is_malformed (refusal_of d (request e a)) ≡ true = ap is_malformed h in
-    absurd (mathlib.Core.Bool.true≢false (sym z ∙ well_formed d e a))
+malformed_request : (d : Store) (q : Option Request) → refusal_of d q ≡ Some MalformedLine → q ≡ None
+malformed_request d None h = refl
+malformed_request d (Some q) h =
+    let z : is_malformed (refusal_of d (Some q)) ≡ true = ap is_malformed h in
+    absurd (mathlib.Core.Bool.true≢false (sym z ∙ well_formed d q.transaction q.action))
 
-malformed_step : (s : Step) → request_of s ≡ malformed → s ≡ Malformed
-malformed_step Malformed h = refl
-malformed_step (WithNumber w e) h = cc
-malformed_step (WithCue w e n) h = cc
+malformed_step : (s : Option Step) → request_of s ≡ None → s ≡ None
+malformed_step None h = refl
+malformed_step (Some (WithNumber w e)) h = cc
+malformed_step (Some (WithCue w e n)) h = cc
 
 -- row 1 is met exactly by a malformed line
 pub malformed_exactly : MalformedExactly
@@ -220,5 +220,5 @@ malformed_exactly d line =
     let q = request_of (step_of line) in
     let r = refused_exactly d q MalformedLine in (
       λ h. malformed_step (step_of line) (malformed_request d q (r.0 h)),
-      λ e. r.1 (ap (λ (s : Step). refusal_of d (request_of s)) e ∙ malformed_refused d),
+      λ e. r.1 (ap (λ (s : Option Step). refusal_of d (request_of s)) e ∙ malformed_refused d),
     )

@@ -3,7 +3,7 @@
 use Prim.Native.Nat.{ℕ, zero, suc, ◌≤◌, max}
 use mathlib.Core.Path.{◌≡◌, refl, ap, ◌∙◌}
 use mathlib.Core.List.{List, [], ◌∷◌}
-use mathlib.Core.Option.{Option, none, some}
+use Rattle.std.specs.Prelude.{Option, None, Some}
 use native.Mathlib.Nat.{suc-max-suc, zero-max}
 use native.Mathlib.Omega.{arith}
 use lib.ListN.{length, replicate}
@@ -11,7 +11,7 @@ use Rattle.refusals.specs.declared.Refusal.{Refusal}
 use Rattle.cues.specs.Cue.{CueKey}
 use Rattle.cues.proofs.Theorems.{key_is_cue_key}
 use Rattle.steps.specs.declared.reading.Step.{Step}
-use Rattle.steps.specs.declared.reading.Step.TheVariants.{WithNumber, WithCue, Malformed}
+use Rattle.steps.specs.declared.reading.Step.TheVariants.{WithNumber, WithCue}
 use Rattle.step_words.specs.declared.NumberWord.{NumberWord}
 use Rattle.step_words.specs.declared.NumberWord.TheVariants.{Begin, Min, Take, Commit, Undo, Back}
 use Rattle.step_words.specs.declared.CueWord.{CueWord}
@@ -30,7 +30,6 @@ use Rattle.boosting.specs.Rows.{
   roll_back,
   call,
   Request,
-  malformed,
   request,
   number_action,
   cue_call,
@@ -100,13 +99,13 @@ cue_call_key Remove k h = h
 cue_call_key Has k h = h
 cue_call_key Push k h = h
 
-pub request_key : (s : Step) → RequestKey (request_of s)
-request_key (WithNumber w e) = number_key w e
-request_key (WithCue w e n) = λ h. cue_call_key w _ (key_is_cue_key _ h)
-request_key Malformed = tt
+pub request_key : (s : Option Step) → RequestKey (request_of s)
+request_key (Some (WithNumber w e)) = number_key w e
+request_key (Some (WithCue w e n)) = λ h. cue_call_key w _ (key_is_cue_key _ h)
+request_key None = tt
 
 perform-Sound : (d : Store) (e : ℕ) (a : Action) → Sound d → RequestKey (request e a)
-    → refusal_of d (request e a) ≡ none → Sound (perform d e a).store
+    → refusal_of d (request e a) ≡ None → Sound (perform d e a).store
 unfolding perform
 perform-Sound d e begin v k h = begin_sound d e v (accepted_valid d e begin h)
 perform-Sound d e commit v k h = close_sound d e v (accepted_valid d e commit h)
@@ -117,14 +116,14 @@ perform-Sound d e (call b c) v k h =
     call_sound d e b c v (accepted_valid d e (call b c) h) (k g.in_range) g
 
 -- a refused request changes nothing
-pub request_keeps_sound : (d : Store) (q : Request) → Sound d → RequestKey q → Sound (step_on d q).store
+pub request_keeps_sound : (d : Store) (q : Option Request) → Sound d → RequestKey q → Sound (step_on d q).store
 unfolding step_on
-request_keeps_sound d malformed v k = v
-request_keeps_sound d (request e a) v k = go (refusal_of d (request e a)) refl
+request_keeps_sound d None v k = v
+request_keeps_sound d (Some q) v k = go (refusal_of d (Some q)) refl
   where
-    go : (o : Option Refusal) → refusal_of d (request e a) ≡ o → Sound (decided o d e a).store
-    go (some r) h = v
-    go none h = perform-Sound d e a v k h
+    go : (o : Option Refusal) → refusal_of d (Some q) ≡ o → Sound (decided o d q.transaction q.action).store
+    go (Some r) h = v
+    go None h = perform-Sound d q.transaction q.action v k h
 
 pub stepping_keeps_sound : SteppingKeepsSound
 unfolding step_line

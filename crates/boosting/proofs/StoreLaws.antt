@@ -4,7 +4,7 @@ use Prim.Native.Nat.{ℕ, zero, suc, ◌≤◌, ◌<◌}
 use mathlib.Core.Path.{◌≡◌, refl, ap}
 use mathlib.Core.Bool.{Bool, true, false, ◌&&◌}
 use mathlib.Core.List.{List, [], ◌∷◌}
-use mathlib.Core.Option.{none, some}
+use Rattle.std.specs.Prelude.{None, Some}
 use native.Mathlib.Omega.{arith}
 use lib.Dec.{eqb, leb}
 use lib.ListN.{length, get_or, length-set}
@@ -107,7 +107,7 @@ aborting_unclosed s p q = let z : ◌≡◌ {A = ℕ} 0 1 = cc in omega arith
 
 -- ---- the search for the transaction in the way
 
-pub blocker-none : (e : ℕ) (k : Lock) (i : ℕ) → blocker e k i [] ≡ none
+pub blocker-none : (e : ℕ) (k : Lock) (i : ℕ) → blocker e k i [] ≡ None
 unfolding blocker
 blocker-none e k i = refl
 
@@ -121,6 +121,6 @@ module _ (e : ℕ) (k : Lock) (i : ℕ) (t : Transaction) (ts : List Transaction
   unfolding blocker
   blocker_clear q c = rw (q, c)
 
-  pub blocker_here : eqb i e ≡ false → conflicts k t.locks ≡ true → blocker e k i (t ∷ ts) ≡ some i
+  pub blocker_here : eqb i e ≡ false → conflicts k t.locks ≡ true → blocker e k i (t ∷ ts) ≡ Some i
   unfolding blocker
   blocker_here q c = rw (q, c)

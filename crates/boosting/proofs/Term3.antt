@@ -6,7 +6,7 @@ use mathlib.Core.Path.{◌≡◌, refl, sym, ap, ◌∙◌, subst}
 use mathlib.Core.Bool.{Bool, true, false, cond}
 use mathlib.Core.List.{List, [], ◌∷◌, ◌++◌, map, map-append, reverse, reverse-cons}
 use mathlib.Core.Logic.{inl}
-use mathlib.Core.Option.{Option, none, some}
+use Rattle.std.specs.Prelude.{Option, None, Some}
 use native.Mathlib.Omega.{arith}
 use lib.Dec.{eqb}
 use Rattle.refusals.specs.declared.Refusal.{Refusal}
@@ -34,7 +34,6 @@ use Rattle.boosting.specs.Rows.{
   roll_back,
   call,
   Request,
-  malformed,
   request,
   request_of,
   refusal_of,
@@ -48,8 +47,10 @@ use Rattle.boosting.specs.Replay.{
   seen,
   is_refused,
   since,
+  since_action,
   calls_of,
   committed,
+  committed_action,
   feed,
   fed,
   answers_of,
@@ -82,31 +83,39 @@ record Account (past : List Event) (pending : ℕ → List Item) (settled : List
   pub fed : feed (map seen past) ≡ map call_in settled
   pub heard : heard_back past ≡ map answer_in settled
 
-map-since : {A B : Type 0} (f : A → B) (e : ℕ) (q : Request) (x : Call → A) (xs : List A)
+map-since : {A B : Type 0} (f : A → B) (e : ℕ) (q : Option Request) (x : Call → A) (xs : List A)
     → map f (since e q x xs) ≡ since e q (λ c. f (x c)) (map f xs)
-map-since f e malformed x xs = refl
-map-since f e (request g begin) x xs = go (eqb g e)
+map-since {A} {B} f e None x xs = refl
+map-since {A} {B} f e (Some q) x xs = by q.action
   where
-    go : (b : Bool) → map f (cond b [] xs) ≡ cond b [] (map f xs)
-    go true = refl
-    go false = refl
-map-since f e (request g commit) x xs = refl
-map-since f e (request g abort) x xs = refl
-map-since f e (request g roll_back) x xs = refl
-map-since f e (request g (call b c)) x xs = go (eqb g e)
-  where
-    go : (b : Bool) → map f (cond b (x c ∷ xs) xs) ≡ cond b (f (x c) ∷ map f xs) (map f xs)
-    go true = refl
-    go false = refl
+    begins : (b : Bool) → map f (cond b [] xs) ≡ cond b [] (map f xs)
+    begins true = refl
+    begins false = refl
 
-map-committed : {A B : Type 0} (f : A → B) (q : Request) (p : ℕ → List A) (xs : List A)
+    calls : (c : Call) (b : Bool) → map f (cond b (x c ∷ xs) xs) ≡ cond b (f (x c) ∷ map f xs) (map f xs)
+    calls c true = refl
+    calls c false = refl
+
+    by : (a : Action)
+        → map f (since_action e q.transaction a x xs) ≡ since_action e q.transaction a (λ c. f (x c)) (map f xs)
+    by begin = begins (eqb q.transaction e)
+    by commit = refl
+    by abort = refl
+    by roll_back = refl
+    by (call b c) = calls c (eqb q.transaction e)
+
+map-committed : {A B : Type 0} (f : A → B) (q : Option Request) (p : ℕ → List A) (xs : List A)
     → map f (committed q p xs) ≡ committed q (λ e. map f (p e)) (map f xs)
-map-committed f malformed p xs = refl
-map-committed f (request g begin) p xs = refl
-map-committed f (request g commit) p xs = map-append f (p g) xs
-map-committed f (request g abort) p xs = refl
-map-committed f (request g roll_back) p xs = refl
-map-committed f (request g (call b c)) p xs = refl
+map-committed f None p xs = refl
+map-committed f (Some q) p xs = by q.action
+  where
+    by : (a : Action) → map f (committed_action q.transaction a p xs)
+        ≡ committed_action q.transaction a (λ e. map f (p e)) (map f xs)
+    by begin = refl
+    by commit = map-append f (p q.transaction) xs
+    by abort = refl
+    by roll_back = refl
+    by (call b c) = refl
 
 module _ (h : Event) (past : List Event) (pending : ℕ → List Item) (settled : List Item)
     (a : Account past pending settled) where
@@ -120,7 +129,7 @@ module _ (h : Event) (past : List Event) (pending : ℕ → List Item) (settled 
   }
 
   -- q is the line's request, and its answer that of the call's item, if it is a call
-  Account-accepted : (q : Request) → request_of (step_of h.line) ≡ q → (d : Store) (f : ℕ)
+  Account-accepted : (q : Option Request) → request_of (step_of h.line) ≡ q → (d : Store) (f : ℕ)
       → is_refused h.answer ≡ false
       → ((e : ℕ) (xs : List Answer) → since e q (λ c. h.answer) xs ≡ since e q (λ c. answer_in (item_of d f c)) xs)
       → Account (h ∷ past) (λ e. since e q (item_of d f) (pending e)) (committed q pending settled)
@@ -164,20 +173,22 @@ answers_agree d f roll_back e xs = refl
 answers_agree d f (call b c) e xs = refl
 
 module _ (start : State) (g : Good start) where
-  outcome_keeps : (r : Run) → Kept start r → (line : List ℕ) (q : Request) → request_of (step_of line) ≡ q
+  outcome_keeps : (r : Run) → Kept start r → (line : List ℕ) (q : Option Request) → request_of (step_of line) ≡ q
       → (o : Option Refusal) → refusal_of r.store q ≡ o → Kept start (stepped r line (step_on r.store q))
-  outcome_keeps r k line q w (some n) h =
+  outcome_keeps r k line q w (Some n) h =
       subst (λ (o : Out). Kept start (stepped r line o)) (sym (step_refused r.store q n h)) (record {
         pending = k.pending;
         settled = k.settled;
         invariant = k.invariant;
         account = Account-refused _ r.past k.pending k.settled k.account refl;
       })
-  outcome_keeps r k line malformed w none h =
+  outcome_keeps r k line None w None h =
       let z : ◌≡◌ {A = ℕ} 0 1 = cc (malformed_refused r.store) in
       absurd (omega arith)
-  outcome_keeps r k line (request e a) w none h =
+  outcome_keeps r k line (Some q) w None h =
       let d = r.store in
+      let e = q.transaction in
+      let a = q.action in
       subst (λ (o : Out). Kept start (stepped r line o)) (sym (step_accepted d e a h)) (record {
         pending = λ f. since f (request e a) (item_of d e) (k.pending f);
         settled = committed (request e a) k.pending k.settled;

@@ -6,7 +6,7 @@ use mathlib.Core.Path.{◌≡◌, refl, ap, ◌∙◌}
 use mathlib.Core.Bool.{cond}
 use mathlib.Core.List.{List, [], ◌∷◌, ◌++◌}
 use mathlib.Core.Logic.{◌⊎◌, inl, inr}
-use mathlib.Core.Option.{Option, none, some}
+use Rattle.std.specs.Prelude.{Option, None, Some}
 use native.Mathlib.Omega.{arith}
 use lib.Dec.{eqb}
 use borrow.Author.Tests.{eq-eqb, ne_eqb}
@@ -344,11 +344,11 @@ cut e s (x ∷ q) p t g k a m =
   where
     go : Taken e s t x (q ++ p) → (c : Cut e s (less e t) q p) → (o : Option Entry) → entry_of x.call x.reply ≡ o
         → play s c.trace ≡ undo_all (entries (x ∷ q)) (play s t)
-    go r c none o =
+    go r c None o =
         let s' = play s (less e t) in
         let w : effect x.call s' ≡ s' = idle x.call s' (play-Good s (less e t) g) (cc r.reply) in
         cc (entries-cons x q, c.state, r.state, w)
-    go r c (some n) o =
+    go r c (Some n) o =
         let s' = play s (less e t) in
         let w : inverse n (effect x.call s') ≡ s' =
         cancel x.call s' n (play-Good s (less e t) g) (cc r.reply) in
@@ -369,7 +369,7 @@ newest (i ∷ t) n ns h = go (entry_of i.call i.reply) refl (λ h'. newest t n n
   where
     go : (o : Option Entry) → entry_of i.call i.reply ≡ o → (entries t ≡ n ∷ ns → Newest t n ns)
         → Newest (i ∷ t) n ns
-    go none o ih =
+    go None o ih =
         let r = ih (cc (entries-cons i t)) in
         record {
           q = i ∷ r.q;
@@ -378,6 +378,6 @@ newest (i ∷ t) n ns h = go (entry_of i.call i.reply) refl (λ h'. newest t n n
           top = cc (entries-cons i r.q, r.top);
           under = r.under;
         }
-    go (some m) o ih =
+    go (Some m) o ih =
         let w : m ∷ entries t ≡ n ∷ ns = cc (entries-cons i t) in
         record { q = i ∷ []; p = t; parts = refl; top = cc (entries-cons i [], entries-nil); under = cc }

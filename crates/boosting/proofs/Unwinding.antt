@@ -4,7 +4,7 @@ use Prim.Native.Nat.{ℕ, zero, suc, ◌≤◌, ◌<◌}
 use mathlib.Core.Path.{◌≡◌, refl, ap, ◌∙◌}
 use mathlib.Core.Bool.{true}
 use mathlib.Core.List.{List, [], ◌∷◌}
-use mathlib.Core.Option.{Option, none, some}
+use Rattle.std.specs.Prelude.{Option, None, Some}
 use native.Mathlib.Nat.{le_of_suc-le-suc, not-suc-le-zero}
 use native.Mathlib.Omega.{arith}
 use lib.ListN.{length}
@@ -46,8 +46,8 @@ pub step_stays : (d : Store) (e : ℕ) (a : Action) → (asks a ≡ closed → �
 step_stays d e a n f s = go (refusal_of d (request e a)) refl
   where
     go : (o : Option Refusal) → refusal_of d (request e a) ≡ o → Closed (step_on d (request e a)).store f
-    go (some r) h = rw (step_refused d (request e a) r h) s
-    go none h =
+    go (Some r) h = rw (step_refused d (request e a) r h) s
+    go None h =
         let m : f ≡ e → ⊥ = λ q. n (cc (accepted_standing d e a h)) in
         rw (step_accepted d e a h, perform_other d e f a m) s
 

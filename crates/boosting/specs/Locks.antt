@@ -2,11 +2,14 @@
 use Rattle.std.specs.Prelude.{ℕ, Bool, true, false, if◌then◌else◌, ◌||◌, List, [], ◌∷◌, ◌++◌}
 use Rattle.tables.specs.Table.{member_of}
 use Rattle.boosting.specs.Object.{Call, add, remove, has, push, min, take}
-
 -- a lock on a cue, or one of the queue's three modes: push, look, take
-pub data Lock : Type 0 where
-  cue_lock : ℕ → Lock
-  push_mode look_mode take_mode : Lock
+pub use Rattle.vocabulary.specs.declared.Lock.{Lock}
+pub use Rattle.vocabulary.specs.declared.Lock.TheVariants.{
+  Cue as cue_lock,
+  Push as push_mode,
+  Look as look_mode,
+  Take as take_mode,
+}
 
 unfoldable pub lock_of : Call → Lock
 lock_of (add k) = cue_lock k

@@ -6,15 +6,24 @@ use Rattle.cues.specs.Cue.{cue_of}
 use Rattle.answers.specs.declared.Answer.{Answer}
 use Rattle.answers.specs.declared.Answer.TheVariants.{Ok, Yes, No, Empty, Cue}
 use Rattle.tables.specs.Table.{member_of, insert_of, delete_of, put_once_of}
-
-pub data Call : Type 0 where
-  add remove has push : ℕ → Call
-  min take : Call
-
--- what a call is answered; a cue by its key
-pub data Reply : Type 0 where
-  is_yes is_no is_ok is_empty : Reply
-  is_cue : ℕ → Reply
+-- the calls, and what a call is answered, a cue by its key: the code's own types, in small letters here
+pub use Rattle.vocabulary.specs.declared.Call.{Call}
+pub use Rattle.vocabulary.specs.declared.Call.TheVariants.{
+  Add as add,
+  Remove as remove,
+  Has as has,
+  Push as push,
+  Min as min,
+  Take as take,
+}
+pub use Rattle.vocabulary.specs.declared.Reply.{Reply}
+pub use Rattle.vocabulary.specs.declared.Reply.TheVariants.{
+  Yes as is_yes,
+  No as is_no,
+  Ok as is_ok,
+  Empty as is_empty,
+  Cue as is_cue,
+}
 
 pub record State : Type 0 where
   pub script : List ℕ

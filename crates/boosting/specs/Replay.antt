@@ -1,12 +1,12 @@
 -- The replay of term 3: a plain desk, fed the accepted calls of the committed transactions, in commit order. What it is
 -- fed is computed from the step lines and from which of them were refused, and from nothing else: `Seen` holds no more.
 -- Assumes nothing.
-use Rattle.std.specs.Prelude.{ℕ, Bool, true, false, if◌then◌else◌, List, [], ◌∷◌, ◌++◌, map, reverse, nat_eq}
+use Rattle.std.specs.Prelude.{ℕ, Option, Some, None, Bool, true, false, if◌then◌else◌, List, [], ◌∷◌, ◌++◌, map, reverse, nat_eq}
 use Rattle.steps.specs.Step.{step_of}
 use Rattle.answers.specs.declared.Answer.{Answer}
 use Rattle.answers.specs.declared.Answer.TheVariants.{Ok, Yes, No, Empty, Cue, Left, Refused}
 use Rattle.boosting.specs.Object.{Call, State, effect, reply, answer_of}
-use Rattle.boosting.specs.Rows.{begin, commit, abort, roll_back, call, Request, malformed, request, request_of}
+use Rattle.boosting.specs.Rows.{Action, begin, commit, abort, roll_back, call, Request, request_of}
 use Rattle.boosting.specs.Run.{Event}
 
 -- the plain desk refuses nothing: its state after calls, and its answers to them
@@ -35,28 +35,36 @@ is_refused (Refused r) = true
 abbrev pub seen : Event → Seen
 seen h = record { line = h.line; refused = is_refused h.answer }
 
--- the calls of e since its begin, with one accepted request more; newest first
-abbrev pub since : {A : Type 0} → ℕ → Request → (Call → A) → List A → List A
-since e malformed x xs = xs
-since e (request f begin) x xs = if nat_eq f e then [] else xs
-since e (request f commit) x xs = xs
-since e (request f abort) x xs = xs
-since e (request f roll_back) x xs = xs
-since e (request f (call b c)) x xs = if nat_eq f e then x c ∷ xs else xs
+-- the calls of e since its begin, with one accepted action of f more; newest first
+abbrev pub since_action : {A : Type 0} → ℕ → ℕ → Action → (Call → A) → List A → List A
+since_action e f begin x xs = if nat_eq f e then [] else xs
+since_action e f commit x xs = xs
+since_action e f abort x xs = xs
+since_action e f roll_back x xs = xs
+since_action e f (call b c) x xs = if nat_eq f e then x c ∷ xs else xs
+
+-- with one accepted request more
+abbrev pub since : {A : Type 0} → ℕ → Option Request → (Call → A) → List A → List A
+since e None x xs = xs
+since e (Some q) x xs = since_action e q.transaction q.action x xs
 
 -- the accepted calls of e since its begin, newest first
 unfoldable pub calls_of : ℕ → List Seen → List Call
 calls_of e [] = []
 calls_of e (h ∷ hs) = if h.refused then calls_of e hs else since e (request_of (step_of h.line)) (λ c. c) (calls_of e hs)
 
--- what an accepted request adds to the feed: a commit the calls of its transaction
-abbrev pub committed : {A : Type 0} → Request → (ℕ → List A) → List A → List A
-committed malformed calls xs = xs
-committed (request f begin) calls xs = xs
-committed (request f commit) calls xs = calls f ++ xs
-committed (request f abort) calls xs = xs
-committed (request f roll_back) calls xs = xs
-committed (request f (call b c)) calls xs = xs
+-- what an accepted action of f adds to the feed: a commit the calls of f
+abbrev pub committed_action : {A : Type 0} → ℕ → Action → (ℕ → List A) → List A → List A
+committed_action f begin calls xs = xs
+committed_action f commit calls xs = calls f ++ xs
+committed_action f abort calls xs = xs
+committed_action f roll_back calls xs = xs
+committed_action f (call b c) calls xs = xs
+
+-- what an accepted request adds to it
+abbrev pub committed : {A : Type 0} → Option Request → (ℕ → List A) → List A → List A
+committed None calls xs = xs
+committed (Some q) calls xs = committed_action q.transaction q.action calls xs
 
 -- the calls of the committed transactions, in commit order, newest first
 unfoldable pub feed : List Seen → List Call

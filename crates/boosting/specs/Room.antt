@@ -1,7 +1,6 @@
 -- Room: a transaction has at most 24 cue locks and 16 undo entries, the script 256 slots, the queue 64. Document 01's
 -- places are slots here. Closed transactions have an empty log, so only unclosed ones count. Assumes nothing.
-use Rattle.std.specs.Prelude.{ℕ, suc, ◌+◌, Bool, false, not, ◌&&◌, List, [], ◌∷◌, nat_le, length}
-use Rattle.std.proofs.Math.Option.{Option, none, some}
+use Rattle.std.specs.Prelude.{ℕ, suc, ◌+◌, Bool, false, not, ◌&&◌, List, [], ◌∷◌, nat_le, length, Option, None, Some}
 use Rattle.tables.specs.Table.{member_of, put_once_of}
 use Rattle.boosting.specs.Undo.{Entry, added, removed, pushed, taken}
 use Rattle.boosting.specs.Locks.{Lock, cue_lock, push_mode, look_mode, take_mode, Locks}
@@ -48,21 +47,21 @@ locks_full take_mode l = false
 
 -- a 17th log entry is needed
 abbrev pub log_full : Option Entry → List Entry → Bool
-log_full none log = false
-log_full (some n) log = nat_le 16 (length log)
+log_full None log = false
+log_full (Some n) log = nat_le 16 (length log)
 
 -- a 257th script slot is needed
 abbrev pub script_full : Option Entry → List ℕ → Bool
-script_full none slots = false
-script_full (some (added k)) slots = not (member_of k slots) && nat_le 256 (length slots)
-script_full (some (removed k)) slots = false
-script_full (some (pushed k)) slots = false
-script_full (some (taken k)) slots = false
+script_full None slots = false
+script_full (Some (added k)) slots = not (member_of k slots) && nat_le 256 (length slots)
+script_full (Some (removed k)) slots = false
+script_full (Some (pushed k)) slots = false
+script_full (Some (taken k)) slots = false
 
 -- a 65th queue slot is needed
 abbrev pub queue_full : Option Entry → ℕ → Bool
-queue_full none slots = false
-queue_full (some (added k)) slots = false
-queue_full (some (removed k)) slots = false
-queue_full (some (pushed k)) slots = nat_le 64 slots
-queue_full (some (taken k)) slots = false
+queue_full None slots = false
+queue_full (Some (added k)) slots = false
+queue_full (Some (removed k)) slots = false
+queue_full (Some (pushed k)) slots = nat_le 64 slots
+queue_full (Some (taken k)) slots = false

@@ -1,7 +1,6 @@
 -- What a step asks for, and the rows of "What is turned away" that it meets: each row's condition by itself, in the
 -- order of the table. The first row that is met decides. Assumes nothing.
-use Rattle.std.specs.Prelude.{ℕ, Bool, true, false, not, ◌&&◌, List, [], ◌∷◌}
-use Rattle.std.proofs.Math.Option.{Option, none, some}
+use Rattle.std.specs.Prelude.{ℕ, Bool, true, false, not, ◌&&◌, List, [], ◌∷◌, Option, None, Some}
 use Rattle.refusals.specs.declared.Refusal.{Refusal}
 use Rattle.refusals.specs.declared.Refusal.TheVariants.{
   TransactionOutOfRange,
@@ -19,7 +18,7 @@ use Rattle.refusals.specs.declared.Refusal.TheVariants.{Malformed as MalformedLi
 use Rattle.cues.specs.Cue.{in_range, key_of}
 use Rattle.cues.specs.declared.CueNumbers.{CueNumbers}
 use Rattle.steps.specs.declared.reading.Step.{Step}
-use Rattle.steps.specs.declared.reading.Step.TheVariants.{WithNumber, WithCue, Malformed}
+use Rattle.steps.specs.declared.reading.Step.TheVariants.{WithNumber, WithCue}
 use Rattle.step_words.specs.declared.NumberWord.{NumberWord}
 use Rattle.step_words.specs.declared.NumberWord.TheVariants.{Begin, Min, Take, Commit, Undo, Back}
 use Rattle.step_words.specs.declared.CueWord.{CueWord}
@@ -29,15 +28,20 @@ use Rattle.boosting.specs.Undo.{entry_of}
 use Rattle.boosting.specs.Locks.{lock_of}
 use Rattle.boosting.specs.Store.{Standing, closed, «open», aborting, Store, valid, transaction, blocker}
 use Rattle.boosting.specs.Room.{reserved, queue_slots, locks_full, log_full, script_full, queue_full}
-
 -- what a step asks of a transaction: a call comes with whether its cue's numbers are in range
-pub data Action : Type 0 where
-  begin commit abort roll_back : Action
-  call : Bool → Call → Action
+pub use Rattle.vocabulary.specs.declared.Action.{Action}
+pub use Rattle.vocabulary.specs.declared.Request.{Request}
+pub use Rattle.vocabulary.specs.declared.Action.TheVariants.{
+  Begin as begin,
+  Commit as commit,
+  Abort as abort,
+  RollBack as roll_back,
+  OnObject as call,
+}
 
-pub data Request : Type 0 where
-  malformed : Request
-  request : ℕ → Action → Request
+-- what is asked of the transaction with a number; a malformed line asks nothing, and its request is `None`
+abbrev pub request : ℕ → Action → Option Request
+request e a = Some (record { transaction = e; action = a })
 
 -- what a word asks for that has only the transaction's number behind it: the papers' `undo` is an abort, their `back` a
 -- rollback step
@@ -62,10 +66,11 @@ on_cue_of n c =
     call (in_range n.time n.«module» n.pin)
     (c (key_of (record { time = n.time; «module» = n.«module»; pin = n.pin })))
 
-abbrev pub request_of : Step → Request
-request_of (WithNumber w e) = request e (number_action w)
-request_of (WithCue w e n) = request e (on_cue_of n (cue_call w))
-request_of Malformed = malformed
+-- the request of a step; a line that is no step makes none
+abbrev pub request_of : Option Step → Option Request
+request_of (Some (WithNumber w e)) = request e (number_action w)
+request_of (Some (WithCue w e n)) = request e (on_cue_of n (cue_call w))
+request_of None = None
 
 abbrev pub is_closed : Standing → Bool
 is_closed closed = true
@@ -100,13 +105,13 @@ cue_in_range (call b c) = b
 
 -- a row that is met where the test says so
 abbrev pub when : Bool → Refusal → Option Refusal
-when true r = some r
-when false r = none
+when true r = Some r
+when false r = None
 
 -- row 8 names the transaction in the way
 abbrev pub blocked_by : Option ℕ → Option Refusal
-blocked_by none = none
-blocked_by (some f) = some (Blocked f)
+blocked_by None = None
+blocked_by (Some f) = Some (Blocked f)
 
 -- the rows of a call alone, 8 to 12
 abbrev pub call_rows : Store → ℕ → Call → List (Option Refusal)
@@ -142,11 +147,11 @@ rows_of d e a =
 
 -- the first row that is met
 unfoldable pub first_met : List (Option Refusal) → Option Refusal
-first_met [] = none
-first_met (some r ∷ rows) = some r
-first_met (none ∷ rows) = first_met rows
+first_met [] = None
+first_met (Some r ∷ rows) = Some r
+first_met (None ∷ rows) = first_met rows
 
 -- the refusal of a request; none where it is accepted. Row 1 is the malformed line's
-unfoldable pub refusal_of : Store → Request → Option Refusal
-refusal_of d malformed = some MalformedLine
-refusal_of d (request e a) = first_met (rows_of d e a)
+unfoldable pub refusal_of : Store → Option Request → Option Refusal
+refusal_of d None = Some MalformedLine
+refusal_of d (Some q) = first_met (rows_of d q.transaction q.action)

@@ -1,5 +1,5 @@
 -- What opening and stepping keep of a store: order, ranges and room. Assumes nothing.
-use Rattle.std.specs.Prelude.{ℕ, ◌≤◌, ◌≡◌, true, false, List, [], ◌∷◌, length}
+use Rattle.std.specs.Prelude.{ℕ, Option, Some, None, ◌≤◌, ◌≡◌, true, false, List, [], ◌∷◌, length}
 use Rattle.cues.specs.Cue.{CueKey}
 use Rattle.tables.specs.Table.{Ordered, member_of}
 use Rattle.scripts.specs.Theorems.{AllCues}
@@ -7,7 +7,7 @@ use Rattle.boosting.specs.Object.{Call, add, remove, has, push, min, take}
 use Rattle.boosting.specs.Undo.{Entry, added, removed, pushed, taken}
 use Rattle.boosting.specs.Store.{closed, Transaction, closed_transaction, Store}
 use Rattle.boosting.specs.Room.{reserved, queue_slots}
-use Rattle.boosting.specs.Rows.{begin, commit, abort, roll_back, call, Request, malformed, request}
+use Rattle.boosting.specs.Rows.{Action, begin, commit, abort, roll_back, call, Request}
 
 -- no key stands twice
 abbrev pub Once : List ℕ → Type 0
@@ -57,11 +57,15 @@ CallKey (push k) = CueKey k
 CallKey min = Unit {0}
 CallKey take = Unit {0}
 
--- what stepping asks of a request: a call whose cue's numbers are in range has the key of a cue
-abbrev pub RequestKey : Request → Type 0
-RequestKey malformed = Unit {0}
-RequestKey (request e begin) = Unit {0}
-RequestKey (request e commit) = Unit {0}
-RequestKey (request e abort) = Unit {0}
-RequestKey (request e roll_back) = Unit {0}
-RequestKey (request e (call b c)) = b ≡ true → CallKey c
+-- a call whose cue's numbers are in range has the key of a cue
+abbrev pub ActionKey : Action → Type 0
+ActionKey begin = Unit {0}
+ActionKey commit = Unit {0}
+ActionKey abort = Unit {0}
+ActionKey roll_back = Unit {0}
+ActionKey (call b c) = b ≡ true → CallKey c
+
+-- what stepping asks of a request
+abbrev pub RequestKey : Option Request → Type 0
+RequestKey None = Unit {0}
+RequestKey (Some q) = ActionKey q.action

@@ -1,6 +1,5 @@
 -- One step on a raw line: refused with nothing changed, or accepted and done. Assumes nothing.
-use Rattle.std.specs.Prelude.{ℕ, List, [], ◌∷◌, length}
-use Rattle.std.proofs.Math.Option.{Option, none, some}
+use Rattle.std.specs.Prelude.{ℕ, List, [], ◌∷◌, length, Option, None, Some}
 use Rattle.refusals.specs.declared.Refusal.{Refusal}
 use Rattle.refusals.specs.declared.Refusal.TheVariants.{Malformed as MalformedLine}
 use Rattle.steps.specs.Step.{step_of}
@@ -27,8 +26,6 @@ use Rattle.boosting.specs.Rows.{
   roll_back,
   call,
   Request,
-  malformed,
-  request,
   request_of,
   refusal_of,
 }
@@ -80,12 +77,12 @@ refuse d r = record { store = d; answer = Refused r }
 
 -- a step that meets no row is accepted
 abbrev pub decided : Option Refusal → Store → ℕ → Action → Out
-decided (some r) d e a = refuse d r
-decided none d e a = perform d e a
+decided (Some r) d e a = refuse d r
+decided None d e a = perform d e a
 
-unfoldable pub step_on : Store → Request → Out
-step_on d malformed = refuse d MalformedLine
-step_on d (request e a) = decided (refusal_of d (request e a)) d e a
+unfoldable pub step_on : Store → Option Request → Out
+step_on d None = refuse d MalformedLine
+step_on d (Some q) = decided (refusal_of d (Some q)) d q.transaction q.action
 
 -- one step on a line of bytes, without its LF
 unfoldable pub step_line : Store → List ℕ → Out

@@ -1,13 +1,11 @@
 -- The store, document 01's desk: one script, one queue and eight transactions, document 01's edits. Assumes nothing.
-use Rattle.std.specs.Prelude.{ℕ, zero, suc, Bool, if◌then◌else◌, ◌&&◌, List, [], ◌∷◌, nat_eq, nat_le, slice_index_or, set, replicate}
-use Rattle.std.proofs.Math.Option.{Option, none, some}
+use Rattle.std.specs.Prelude.{ℕ, zero, suc, Bool, if◌then◌else◌, ◌&&◌, List, [], ◌∷◌, nat_eq, nat_le, slice_index_or, set, replicate, Option, None, Some}
 use Rattle.boosting.specs.Object.{State}
 use Rattle.boosting.specs.Undo.{Entry}
 use Rattle.boosting.specs.Locks.{Lock, Locks, no_locks, conflicts}
-
--- closed, open, or aborting: document 01's unwinding edit, which still holds its locks
-pub data Standing : Type 0 where
-  closed «open» aborting : Standing
+-- closed, open, or aborting: the users' unwinding edit, which still holds its locks
+pub use Rattle.vocabulary.specs.declared.Standing.{Standing}
+pub use Rattle.vocabulary.specs.declared.Standing.TheVariants.{Closed as closed, Open as «open», Aborting as aborting}
 
 pub record Transaction : Type 0 where
   pub standing : Standing
@@ -49,6 +47,6 @@ put d s e t = record { state = s; transactions = with_transaction d.transactions
 
 -- the lowest-numbered transaction other than e, from number i on, that holds a lock in conflict with this one
 unfoldable pub blocker : ℕ → Lock → ℕ → List Transaction → Option ℕ
-blocker e k i [] = none
+blocker e k i [] = None
 blocker e k i (t ∷ ts) =
-    if nat_eq i e then blocker e k (suc i) ts else if conflicts k t.locks then some i else blocker e k (suc i) ts
+    if nat_eq i e then blocker e k (suc i) ts else if conflicts k t.locks then Some i else blocker e k (suc i) ts

@@ -1,12 +1,10 @@
 -- The three terms of acceptance, what stepping keeps, and the lock listing, as theorems about the model; proved in
 -- `proofs/Theorems.antt`. Assumes nothing.
-use Rattle.std.specs.Prelude.{ℕ, suc, ◌≤◌, ◌<◌, max, ◌≡◌, Bool, true, false, if◌then◌else◌, not, ◌&&◌, ◌||◌, List, [], ◌∷◌, ◌⊎◌, ◌↔◌, nat_eq, length}
-use Rattle.std.proofs.Math.Option.{Option, none, some}
+use Rattle.std.specs.Prelude.{ℕ, suc, ◌≤◌, ◌<◌, max, ◌≡◌, Bool, true, false, if◌then◌else◌, not, ◌&&◌, ◌||◌, List, [], ◌∷◌, ◌⊎◌, ◌↔◌, nat_eq, length, Option, None, Some}
 use Rattle.refusals.specs.declared.Refusal.{Refusal}
 use Rattle.refusals.specs.declared.Refusal.TheVariants.{Blocked}
 use Rattle.refusals.specs.declared.Refusal.TheVariants.{Malformed as MalformedLine}
 use Rattle.steps.specs.Step.{step_of}
-use Rattle.steps.specs.declared.reading.Step.TheVariants.{Malformed}
 use Rattle.answers.specs.declared.Answer.{Answer}
 use Rattle.answers.specs.declared.Answer.TheVariants.{Ok, Left, Refused}
 use Rattle.tables.specs.Table.{Ordered, member_of, insert_of, delete_of, put_once_of}
@@ -72,7 +70,7 @@ RefusalsChangeNothing =
 -- r is what the first row says that says anything: its condition holds and no earlier row is met
 abbrev pub FirstOf : List (Option Refusal) → Refusal → Type 0
 FirstOf [] r = ⊥
-FirstOf (row ∷ rows) r = (row ≡ some r) ⊎ ((row ≡ none) × FirstOf rows r)
+FirstOf (row ∷ rows) r = (row ≡ Some r) ⊎ ((row ≡ None) × FirstOf rows r)
 
 -- a row is met exactly when its condition holds and no earlier row is met
 abbrev pub RowsDecide : Type 0
@@ -83,11 +81,11 @@ RowsDecide =
 -- row 1 is met exactly by a malformed line
 abbrev pub MalformedExactly : Type 0
 MalformedExactly =
-    (d : Store) (line : List ℕ) → ((step_line d line).answer ≡ Refused MalformedLine) ↔ (step_of line ≡ Malformed)
+    (d : Store) (line : List ℕ) → ((step_line d line).answer ≡ Refused MalformedLine) ↔ (step_of line ≡ None)
 
 -- a step that meets no row is accepted, and no other is
 abbrev pub AcceptedExactly : Type 0
-AcceptedExactly = (d : Store) (q : Request) → (is_refused (step_on d q).answer ≡ false) ↔ (refusal_of d q ≡ none)
+AcceptedExactly = (d : Store) (q : Option Request) → (is_refused (step_on d q).answer ≡ false) ↔ (refusal_of d q ≡ None)
 
 -- ---- what the accepted steps other than calls do
 
@@ -101,23 +99,23 @@ pub record Leaves (d : Store) (e : ℕ) (o : Out) (a : Answer) (s : State) (t : 
 -- the rows of document 01's table of steps: `begin`, `commit`, `undo`, and `back` with no entry, one, and more
 pub record StepTable (d : Store) (e : ℕ) : Type 0 where
   pub begins :
-      refusal_of d (request e begin) ≡ none
+      refusal_of d (request e begin) ≡ None
       → Leaves d e (step_on d (request e begin)) Ok d.state open_transaction
   pub commits :
-      refusal_of d (request e commit) ≡ none
+      refusal_of d (request e commit) ≡ None
       → Leaves d e (step_on d (request e commit)) Ok d.state closed_transaction
   pub aborts :
-      refusal_of d (request e abort) ≡ none
+      refusal_of d (request e abort) ≡ None
       → Leaves d e (step_on d (request e abort)) Ok d.state
       (record { standing = aborting; locks = (transaction d e).locks; log = (transaction d e).log })
   pub rolls_back_none :
-      refusal_of d (request e roll_back) ≡ none → (transaction d e).log ≡ []
+      refusal_of d (request e roll_back) ≡ None → (transaction d e).log ≡ []
       → Leaves d e (step_on d (request e roll_back)) (Left 0) d.state closed_transaction
   pub rolls_back_last :
-      (n : Entry) → refusal_of d (request e roll_back) ≡ none → (transaction d e).log ≡ n ∷ []
+      (n : Entry) → refusal_of d (request e roll_back) ≡ None → (transaction d e).log ≡ n ∷ []
       → Leaves d e (step_on d (request e roll_back)) (Left 0) (inverse n d.state) closed_transaction
   pub rolls_back_newest :
-      (n m : Entry) (log : List Entry) → refusal_of d (request e roll_back) ≡ none
+      (n m : Entry) (log : List Entry) → refusal_of d (request e roll_back) ≡ None
       → (transaction d e).log ≡ n ∷ m ∷ log
       → Leaves d e (step_on d (request e roll_back)) (Left (length (m ∷ log))) (inverse n d.state)
       (record { standing = aborting; locks = (transaction d e).locks; log = m ∷ log })
@@ -155,7 +153,7 @@ pub record Done (d : Store) (e : ℕ) (c : Call) (o : Out) : Type 0 where
 
 abbrev pub AcceptedCallsDo : Type 0
 AcceptedCallsDo =
-    (d : Store) (e : ℕ) (b : Bool) (c : Call) → Sound d → refusal_of d (request e (call b c)) ≡ none
+    (d : Store) (e : ℕ) (b : Bool) (c : Call) → Sound d → refusal_of d (request e (call b c)) ≡ None
     → Done d e c (step_on d (request e (call b c)))
 
 -- how often a cue stands in a collection

@@ -1,6 +1,5 @@
 -- The undo log: what a call notes, and the inverse that takes it back. Document 01's log entries. Assumes nothing.
-use Rattle.std.specs.Prelude.{ℕ, List, ◌∷◌}
-use Rattle.std.proofs.Math.Option.{Option, none, some}
+use Rattle.std.specs.Prelude.{ℕ, List, ◌∷◌, Option, None, Some}
 use Rattle.tables.specs.Table.{insert_of, delete_of, put_once_of}
 use Rattle.boosting.specs.Object.{
   Call,
@@ -18,33 +17,38 @@ use Rattle.boosting.specs.Object.{
   is_cue,
   State,
 }
-
-pub data Entry : Type 0 where
-  added removed pushed taken : ℕ → Entry
+-- what is noted, with the cue's key
+pub use Rattle.vocabulary.specs.declared.Entry.{Entry}
+pub use Rattle.vocabulary.specs.declared.Entry.TheVariants.{
+  Added as added,
+  Removed as removed,
+  Pushed as pushed,
+  Taken as taken,
+}
 
 -- noted on `yes`
 abbrev pub on_yes : Reply → Entry → Option Entry
-on_yes is_yes n = some n
-on_yes is_no n = none
-on_yes is_ok n = none
-on_yes is_empty n = none
-on_yes (is_cue k) n = none
+on_yes is_yes n = Some n
+on_yes is_no n = None
+on_yes is_ok n = None
+on_yes is_empty n = None
+on_yes (is_cue k) n = None
 
 -- noted on a cue
 abbrev pub on_cue : Reply → Option Entry
-on_cue is_yes = none
-on_cue is_no = none
-on_cue is_ok = none
-on_cue is_empty = none
-on_cue (is_cue k) = some (taken k)
+on_cue is_yes = None
+on_cue is_no = None
+on_cue is_ok = None
+on_cue is_empty = None
+on_cue (is_cue k) = Some (taken k)
 
 -- the entry of an accepted call, by its answer
 unfoldable pub entry_of : Call → Reply → Option Entry
 entry_of (add k) a = on_yes a (added k)
 entry_of (remove k) a = on_yes a (removed k)
-entry_of (has k) a = none
-entry_of (push k) a = some (pushed k)
-entry_of min a = none
+entry_of (has k) a = None
+entry_of (push k) a = Some (pushed k)
+entry_of min a = None
 entry_of take a = on_cue a
 
 -- the inverse of a `yes` add is a remove, of a `yes` remove an add
@@ -66,5 +70,5 @@ inverse n s = record { script = script_undone n s.script; queue = queue_undone n
 
 -- the log with the entry in front, if there is one: newest first
 abbrev pub noted : Option Entry → List Entry → List Entry
-noted none log = log
-noted (some n) log = n ∷ log
+noted None log = log
+noted (Some n) log = n ∷ log

@@ -10,9 +10,9 @@ ghost use Rattle.tables.specs.Table.{member_of};
 ghost use Rattle.boosting.specs.Locks.{conflicts};
 ghost use Rattle.boosting.specs.Room.{locks_full};
 ghost use Rattle.transactions.specs.View.{WordsFit, transaction_of, passes};
-ghost use Rattle.transactions.specs.Code.{model_lock};
 
-use transactions::{LOCK_COUNT, LOOKS, Lock, PUSHES, SIEVE, TAKES, sieve_bit};
+use transactions::{LOCK_COUNT, LOOKS, PUSHES, SIEVE, TAKES, sieve_bit};
+use vocabulary::Lock;
 
 // Whether a cue lock with this key can be held: the sieve has the key's bit. Where it has not, the lock is not held.
 pub fn may_hold(t: &[u64; 64], key: u64) -> bool
@@ -52,7 +52,7 @@ fn any_held(a: u64, b: u64) -> bool
 // Whether the lock is in conflict with one that this transaction holds.
 pub fn in_conflict(t: &[u64; 64], lock: Lock) -> bool
     requires { WordsFit t.now }
-    ensures { result ≡ conflicts (model_lock lock) (transaction_of t.now).locks }
+    ensures { result ≡ conflicts lock (transaction_of t.now).locks }
 {
     match lock {
         Lock::Cue(key) => holds_cue(t, key),
@@ -65,7 +65,7 @@ pub fn in_conflict(t: &[u64; 64], lock: Lock) -> bool
 // Whether the lock would be the 25th on a cue.
 pub fn locks_full(t: &[u64; 64], lock: Lock) -> bool
     requires { WordsFit t.now }
-    ensures { result ≡ locks_full (model_lock lock) (transaction_of t.now).locks }
+    ensures { result ≡ locks_full lock (transaction_of t.now).locks }
 {
     match lock {
         Lock::Cue(key) => {

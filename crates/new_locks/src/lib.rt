@@ -10,10 +10,10 @@ ghost use Rattle.std.specs.Int.Bits.{bit_or};
 ghost use Rattle.boosting.specs.Locks.{cue_lock};
 ghost use Rattle.boosting.specs.Room.{locks_full};
 ghost use Rattle.transactions.specs.View.{WordsFit, Made, transaction_of, with_lock, sieve_bit};
-ghost use Rattle.transactions.specs.Code.{model_lock};
 
 use held_locks::holds_cue;
-use transactions::{LOCK_COUNT, LOOKS, Lock, PUSHES, SIEVE, TAKES, sieve_bit};
+use transactions::{LOCK_COUNT, LOOKS, PUSHES, SIEVE, TAKES, sieve_bit};
+use vocabulary::Lock;
 
 // The sieve with the key's bit set.
 fn with_bit(sieve: u64, key: u64) -> u64
@@ -41,8 +41,8 @@ fn hold_cue(t: &mut [u64; 64], key: u64)
 // The lock is held, once, besides those that were.
 pub fn hold(t: &mut [u64; 64], lock: Lock)
     requires words_fit { WordsFit t.old }
-    requires not_full { locks_full (model_lock lock) (transaction_of t.old).locks ≡ false }
-    ensures { Made t.new (with_lock (model_lock lock) (transaction_of t.old)) }
+    requires not_full { locks_full lock (transaction_of t.old).locks ≡ false }
+    ensures { Made t.new (with_lock lock (transaction_of t.old)) }
 {
     match lock {
         Lock::Cue(key) => hold_cue(t, key),

@@ -1,6 +1,5 @@
 -- When a step may be performed on words, and what it leaves. Assumes nothing.
-use Rattle.std.specs.Prelude.{ℕ, ◌≡◌, List}
-use Rattle.std.proofs.Math.Option.{none}
+use Rattle.std.specs.Prelude.{ℕ, ◌≡◌, List, None}
 use Rattle.answers.specs.declared.Answer.{Answer}
 use Rattle.boosting.specs.Store.{Store}
 use Rattle.boosting.specs.Rows.{Action, request, refusal_of}
@@ -11,7 +10,7 @@ use Rattle.store_words.specs.Words.{store_of, StoreFits}
 -- no row turns the request away, and a call in range has the key of a cue
 pub record Ready (s q : List ℕ) (ts : List (List ℕ)) (e : ℕ) (a : Action) : Type 0 where
   pub fits : StoreFits s q ts
-  pub accepted : refusal_of (store_of s q ts) (request e a) ≡ none
+  pub accepted : refusal_of (store_of s q ts) (request e a) ≡ None
   pub key : RequestKey (request e a)
 
 -- the words show the outcome's store, and the answer is the outcome's

@@ -1,3 +1,2 @@
--- What the words show, and what the code's enums mean.
+-- What the words show.
 pub mod View
-pub mod Code

@@ -10,24 +10,8 @@ ghost use Rattle.std.specs.Prelude.{◌≡◌, ◌<◌, length};
 ghost use Rattle.boosting.specs.Store.{closed_transaction, open_transaction};
 ghost use Rattle.boosting.specs.Step.{aborted};
 ghost use Rattle.transactions.specs.View.{WordsFit, Made, transaction_of, sieve_bit};
-ghost use Rattle.transactions.specs.Code.{model_standing};
 
-// A lock on the cue with this key, or one of the queue's modes.
-#[derive(Clone, Copy)]
-pub enum Lock {
-    Cue(u64),
-    Push,
-    Look,
-    Take,
-}
-
-// An aborting transaction still holds its locks.
-#[derive(Drop)]
-pub enum Standing {
-    Closed,
-    Open,
-    Aborting,
-}
+use vocabulary::Standing;
 
 // Where the words of the standing, the modes and the counts are; the cue locks come first.
 const STANDING: usize = 56;
@@ -61,7 +45,7 @@ const ABORTING: u64 = 2;
 
 // How the transaction stands.
 pub fn standing_of(t: &[u64; 64]) -> Standing
-    ensures { model_standing result ≡ (transaction_of t.now).standing }
+    ensures { result ≡ (transaction_of t.now).standing }
 {
     match t[STANDING] {
         CLOSED => Standing::Closed,

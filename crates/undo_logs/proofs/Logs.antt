@@ -2,8 +2,9 @@
 use Prim.Native.Nat.{ℕ, zero, suc, ◌+◌, ◌-◌, ◌≤◌, ◌<◌}
 use mathlib.Core.Path.{◌≡◌, refl, ap, ◌∙◌}
 use mathlib.Core.Bool.{true, false}
-use mathlib.Core.List.{List, [], ◌∷◌, head?, tail}
-use mathlib.Core.Option.{none, some}
+use mathlib.Core.List.{List, [], ◌∷◌, tail}
+use Rattle.std.specs.Prelude.{None, Some}
+use Rattle.undo_logs.specs.Newest.{newest}
 use native.Mathlib.Nat.{not-suc-le-zero}
 use native.Mathlib.Numerals.{add-one}
 use native.Mathlib.Omega.{arith}
@@ -72,12 +73,12 @@ entries_pop (suc n) w h =
     rw e
 
 -- the newest entry, by the count
-pub newest_none : (log : List Entry) → length log ≡ 0 → head? log ≡ none
+pub newest_none : (log : List Entry) → length log ≡ 0 → newest log ≡ None
 newest_none [] h = refl
 newest_none (n ∷ log) h = absurd (omega (arith, h))
 
 pub newest_some : (n m : ℕ) (w : List ℕ) → n ≡ length (entries_of m w) → 0 < n
-    → head? (entries_of m w) ≡ some (entry_at (n - 1) w)
+    → newest (entries_of m w) ≡ Some (entry_at (n - 1) w)
 newest_some n m w e h =
     let q : n ≡ m = e ∙ length_entries m w in
     rw (← q, entries_pop n w h)

@@ -1,2 +1,2 @@
--- What the code's enums mean.
-pub mod Code
+-- The newest entry of a log.
+pub mod Newest

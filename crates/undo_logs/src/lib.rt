@@ -5,7 +5,6 @@
 #![tactic(auto)]
 
 ghost use Rattle.std.specs.Prelude.{◌≡◌, ◌<◌, ◌≤◌, length};
-ghost use mathlib.Core.List.{head?};
 ghost use Rattle.boosting.specs.Store.{aborting};
 ghost use Rattle.boosting.specs.Room.{takes_by};
 ghost use Rattle.transactions.specs.View.{
@@ -18,25 +17,10 @@ ghost use Rattle.transactions.specs.View.{
   without_newest,
   unwound_once,
 };
-ghost use Rattle.undo_logs.specs.Code.{model_entry, model_newest};
+ghost use Rattle.undo_logs.specs.Newest.{newest};
 
 use transactions::ENTRY_COUNT;
-
-// What the undo log notes of a call that changed something, with the cue's key.
-#[derive(Drop)]
-pub enum Entry {
-    Added(u64),
-    Removed(u64),
-    Pushed(u64),
-    Taken(u64),
-}
-
-// The newest entry of a log, if there is one.
-#[derive(Drop)]
-pub enum Newest {
-    Entry(Entry),
-    Nothing,
-}
+use vocabulary::Entry;
 
 // Where the entries' keys and kinds are.
 const ENTRY_KEYS: usize = 24;
@@ -63,7 +47,7 @@ pub fn entry_count(t: &[u64; 64]) -> usize
 // The entry at a place of the log, the oldest at 0.
 pub fn entry_at(t: &[u64; 64], j: usize) -> Entry
     requires { j < 16 }
-    ensures { model_entry result ≡ entry_at j t.now }
+    ensures { result ≡ entry_at j t.now }
 {
     let key = t[ENTRY_KEYS + j];
     match t[ENTRY_KINDS + j] {
@@ -75,15 +59,15 @@ pub fn entry_at(t: &[u64; 64], j: usize) -> Entry
 }
 
 // The newest entry, which is undone first.
-pub fn newest_entry(t: &[u64; 64]) -> Newest
+pub fn newest_entry(t: &[u64; 64]) -> Option<Entry>
     requires { WordsFit t.now }
-    ensures { model_newest result ≡ head? (transaction_of t.now).log }
+    ensures { result ≡ newest (transaction_of t.now).log }
 {
     let n = entry_count(t);
     if n == 0 {
-        return Newest::Nothing;
+        return None;
     }
-    Newest::Entry(entry_at(t, n - 1))
+    Some(entry_at(t, n - 1))
 }
 
 // One more entry, of this kind and key.
@@ -100,7 +84,7 @@ fn note_words(t: &mut [u64; 64], kind: u64, key: u64)
 // The log notes one more entry.
 pub fn note(t: &mut [u64; 64], entry: Entry)
     requires { WordsFit t.old × (length (transaction_of t.old).log < 16) }
-    ensures { Made t.new (with_entry (model_entry entry) (transaction_of t.old)) }
+    ensures { Made t.new (with_entry entry (transaction_of t.old)) }
 {
     match entry {
         Entry::Added(key) => note_words(t, ADDED, key),
@@ -140,12 +124,10 @@ pub fn take_count(t: &[u64; 64]) -> usize
 {
     let n = t[ENTRY_COUNT] as usize;
     let mut takes: usize = 0;
-    let mut j = 0;
-    while j < n {
+    for j in 0..n {
         if TAKEN <= t[ENTRY_KINDS + j] {
             takes += 1;
         }
-        j += 1;
     }
     takes
 }

@@ -5,7 +5,7 @@ use Rattle.undo_logs.proofs.take_count.Goals as goal
 
 pub loop-j-init : goal.loop-j-init
 unfolding takes_by
-loop-j-init c = (omega arith, c.requires.entry_count_le, omega arith, refl)
+loop-j-init c = (omega arith, refl)
 
 pub loop-j-preserved : goal.loop-j-preserved
 loop-j-preserved c = grind (arith, ⊎_elim, takes_more, takes_same)

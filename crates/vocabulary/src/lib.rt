@@ -1,0 +1,71 @@
+// The words that the model and the code of the store share: locks, standings, undo entries, calls, replies, requests.
+//
+// Each is declared once, here. The definitions of the model (`boosting`) compute on these types, and the contracts of
+// the code speak of them with no translation. A cue stands in them by its key (`cues`). Users know some of the words by
+// another name; it stands in the line above each.
+#![tactic(auto)]
+
+// A lock on the cue with this key, or one of the queue's modes: `push`, `look` and `take` of the lock sheet.
+#[derive(Clone, Copy, Debug, PartialEq, Eq)]
+pub enum Lock {
+    Cue(u64),
+    Push,
+    Look,
+    Take,
+}
+
+// How a transaction, which users call an edit, stands. `Aborting` is their unwinding: it still holds its locks.
+#[derive(Clone, Copy, Debug, PartialEq, Eq)]
+pub enum Standing {
+    Closed,
+    Open,
+    Aborting,
+}
+
+// What the undo log, the users' log, notes of a call that changed something, with the cue's key.
+#[derive(Clone, Copy, Debug, PartialEq, Eq)]
+pub enum Entry {
+    Added(u64),
+    Removed(u64),
+    Pushed(u64),
+    Taken(u64),
+}
+
+// A call on script and queue, with its cue's key.
+#[derive(Clone, Copy, Debug, PartialEq, Eq)]
+pub enum Call {
+    Add(u64),
+    Remove(u64),
+    Has(u64),
+    Push(u64),
+    Min,
+    Take,
+}
+
+// What a call is answered.
+#[derive(Clone, Copy, Debug, PartialEq, Eq)]
+pub enum Reply {
+    Yes,
+    No,
+    Ok,
+    Empty,
+    Cue(u64),
+}
+
+// What a step asks of a transaction. Users write `undo` for `Abort` and `back` for `RollBack`.
+#[derive(Clone, Copy, Debug, PartialEq, Eq)]
+pub enum Action {
+    Begin,
+    Commit,
+    Abort,
+    RollBack,
+    // A call, with whether its cue's numbers are in range.
+    OnObject(bool, Call),
+}
+
+// What a step line asks for: the transaction's number, whatever its range, and an action. A malformed line asks nothing.
+#[derive(Clone, Copy, Debug, PartialEq, Eq)]
+pub struct Request {
+    pub transaction: u64,
+    pub action: Action,
+}
