@@ -1,9 +1,9 @@
 -- The lines from a place of a text on: the line that is read there, and those behind it. Assumes nothing.
-use Rattle.std.proofs.Common.{◌≡◌, ℕ, ◌+◌, ◌-◌, ◌<◌, ◌≤◌, List, [], ◌∷◌, length, take, drop, Option, Some, None, Bor, Bool, true, false, cond, ltb, arith, refl, sym, ap, ◌∙◌, length-drop}
+use Rattle.std.proofs.Common.{◌≡◌, ℕ, ◌+◌, ◌-◌, ◌<◌, ◌≤◌, List, [], ◌∷◌, length, take, drop, Option, Some, None, Bor, suc, nat_eq, Bool, true, false, cond, ltb, arith, refl, sym, ap, ◌∙◌, length-drop}
 use borrow.Author.Tests.{ltb-true, ltb-false}
 use Rattle.lines.specs.declared.Line.{Line}
 use Rattle.lines.specs.Line.{line_to, line_at}
-use Rattle.lines.specs.Lines.{up_to, lines_of}
+use Rattle.lines.specs.Lines.{up_to, onto, lines_of}
 use Rattle.lines.proofs.Laws.{lines_next, lines_end, up_le}
 use Rattle.line_reader.specs.declared.LineReader.{LineReader}
 use Rattle.line_reader.specs.Reader.{place_after, Taken, lines_left}
@@ -65,3 +65,19 @@ module _ (before after : LineReader) (read : Option Line) (t : Taken before afte
   line_bounds line e =
       let text : after.text.now ≡ before.text.now = ap (λ (b : Bor (List ℕ)). b.now) t.text in
       rw text (line_within before.text.now before.at line (sym t.is ∙ e))
+
+-- ---- a text has no more lines than bytes
+onto_at_most : (b : ℕ) (ls : List (List ℕ)) → length (onto b ls) ≤ length ls + 1
+unfolding onto
+onto_at_most b [] = omega arith
+onto_at_most b (l ∷ ls) = omega arith
+
+pub lines_at_most : (s : List ℕ) → length (lines_of s) ≤ length s
+unfolding lines_of
+lines_at_most [] = omega arith
+lines_at_most (b ∷ bs) = by_test (nat_eq b 10) (lines_at_most bs)
+  where
+    by_test : (t : Bool) → length (lines_of bs) ≤ length bs
+        → length (cond t ([] ∷ lines_of bs) (onto b (lines_of bs))) ≤ suc (length bs)
+    by_test true h = omega arith
+    by_test false h = omega (arith, onto_at_most b (lines_of bs))
