@@ -1,2 +1,4 @@
+-- Laws of the lines and of writing them; the theorems.
 pub mod Listings
+pub mod Rest
 pub mod Theorems

@@ -30,8 +30,8 @@ use Rattle.boosting.proofs.Listing.{listing_once}
 use Rattle.lock_listing.specs.Listed.{mode_text}
 use Rattle.lock_listing.specs.Theorems.{LengthOfEveryOrder, LinesOnce, ListingShort}
 use Rattle.lock_listing.proofs.Listings.{
-  lock_line-length,
-  held-length,
+  lock_line_counted,
+  held_length,
   unheld_text,
   append-length,
   modes_length,
@@ -101,10 +101,10 @@ module _ (e : ℕ) (h : e < 10) where
   locks_short (k ∷ ks) a =
       let c = cue_line_short (cue_of k) a.0.in_range in
       let l = length-append (lock_line e k) (flatten (lock_lines e ks)) in
-      omega (arith, c, l, lock_line-length e k, one_digit, locks_short ks a.1)
+      omega (arith, c, l, lock_line_counted e k, one_digit, locks_short ks a.1)
 
   mode_short : (held : Bool) (word : List ℕ) → length word ≡ 5 → length (mode_text e held word) ≤ 12
-  mode_short true word n = omega (arith, held-length e true word refl, one_digit, n)
+  mode_short true word n = omega (arith, held_length e true word refl, one_digit, n)
   mode_short false word n = omega (arith, ap length (unheld_text e false word refl))
 
   modes_short : (l : Locks) → length (flatten (modes_of e l)) ≤ 36

@@ -1,203 +1,126 @@
 // The lock listing, document 01's lock sheet: a line for each cue lock and each queue mode that is held.
 //
 // It is written into a lent buffer, whole or not at all. The promise leaves the order of the lines open; the program
-// takes transaction by transaction, each with its cue locks and then its modes. The `requires` ask for what opening and
-// stepping establish of the words.
+// takes transaction by transaction, each with its cue locks and then its modes. No public function has a `requires`.
 #![tactic(auto)]
 
-ghost use Rattle.std.specs.Prelude.{◌≡◌, ◌++◌, map, ◌+◌, ◌≤◌, length};
-ghost use Rattle.buffers.specs.Put.{Put};
-ghost use Rattle.records.specs.Record.{field_text};
+ghost use Rattle.std.specs.Prelude.{◌≡◌, ◌++◌, ◌+◌, ◌≤◌, length};
+ghost use Rattle.buffers.specs.Written.{written_at};
 ghost use Rattle.boosting.specs.Listing.{lock_line};
-ghost use Rattle.transactions.specs.View.{WordsFit, transaction_of};
-ghost use Rattle.store_words.specs.Words.{TransactionsFit};
-ghost use Rattle.lock_listing.specs.Listed.{
-  ListingWritten,
-  mode_text,
-  locks_text,
-  modes_text,
-  transaction_text,
-  listing_text,
-};
+ghost use Rattle.lock_listing.specs.Listed.{ListingWritten, mode_text, modes_text, locks_text, listing_text};
 
-use buffers::{Written, fits, write_bytes};
-use cue_texts::{cue_length, write_cue};
+use buffers::{fits, write_bytes};
+use cue_texts::{cue_length, cue_line};
 use cues::Cue;
 use digits::digit_count;
-use records::write_field;
+use held_locks::HeldLocks;
+use records::LineBuffer;
 use refusals::Refusal;
+use transactions::Transaction;
 
-const TRANSACTIONS: usize = 8;
-
-// Where a transaction's words have its modes and its count of cue locks; the cue locks come first.
-const PUSHES: usize = 57;
-
-const LOOKS: usize = 58;
-
-const TAKES: usize = 59;
-
-const LOCK_COUNT: usize = 60;
-
-// How many bytes the line of a cue lock has.
+// How many bytes the line of a cue lock has. Many are counted before they are written, so the line is not composed for
+// it.
+#[tactic(auto, using(crate::proofs::Listings::lock_line_counted))]
 fn lock_length(e: u64, key: u64) -> usize
-    ensures { (result ≡ length (lock_line e key)) × (result ≤ 89) }
+    ensures counted { result ≡ length (lock_line e key) }
+    ensures short { result ≤ 89 }
 {
     digit_count(e) + cue_length(Cue::of_key(key)) + 6
 }
 
-// How many bytes the line of a mode has; a mode that is not held has none.
-fn mode_length(e: u64, held: bool, word: &[u8]) -> usize
-    requires { length word.now ≤ 5 }
-    ensures { (result ≡ length (mode_text e held word.now)) × (result ≤ 31) }
+// The line of a cue lock.
+fn lock_line(e: u64, key: u64) -> LineBuffer
+    ensures { result ≡ lock_line e key }
+{
+    let mut line = LineBuffer::new();
+    line.push_bytes(b"lock,");
+    line.push_field(e, b',');
+    line.push_bytes(cue_line(Cue::of_key(key)).as_bytes());
+    line
+}
+
+// The line of a mode, behind others; a mode that is not held has none.
+#[tactic(auto, using(crate::proofs::Listings::mode_rules))]
+fn push_mode(lines: &mut LineBuffer, e: u64, held: bool, word: &[u8])
+    requires has_room { length lines.old + 31 ≤ 96 }
+    requires short_word { length word.now ≤ 5 }
+    ensures added { lines.new ≡ lines.old ++ mode_text e held word.now }
+    ensures short { length lines.new ≤ length lines.old + 31 }
 {
     if held {
-        return digit_count(e) + word.len() + 6;
+        lines.push_bytes(b"mode,");
+        lines.push_field(e, b',');
+        lines.push_bytes(word);
     }
-    0
 }
 
-// How many bytes the lines of a transaction's cue locks have.
-fn locks_length(e: u64, t: &[u64; 64]) -> usize
-    requires { WordsFit t.now }
-    ensures { (result ≡ length (locks_text e t.now)) × (result ≤ 2136) }
+// The lines of a transaction's modes: three short ones at most.
+#[tactic(auto, using(crate::proofs::Listings::modes_in_order))]
+fn mode_lines(e: u64, locks: &HeldLocks) -> LineBuffer
+    ensures text { result ≡ modes_text e locks.now }
+    ensures short { length result ≤ 93 }
 {
-    let count = t[LOCK_COUNT] as usize;
-    let mut sum = 0;
-    let mut j = 0;
-    while j < count {
-        sum += lock_length(e, t[j]);
-        j += 1;
+    let mut lines = LineBuffer::new();
+    push_mode(&mut lines, e, locks.pushes(), b"push\n");
+    push_mode(&mut lines, e, locks.looks(), b"look\n");
+    push_mode(&mut lines, e, locks.takes(), b"take\n");
+    lines
+}
+
+// How many bytes the lines of a transaction's locks have.
+#[tactic(auto, using(crate::proofs::Listings::locks_rules))]
+fn locks_length(e: u64, locks: &HeldLocks) -> usize
+    ensures counted { result ≡ length (locks_text e locks.now) }
+    ensures short { result ≤ 2229 }
+{
+    let mut sum = mode_lines(e, locks).as_bytes().len();
+    for key in locks.cues() {
+        sum += lock_length(e, *key);
     }
     sum
-}
-
-// How many bytes the lines of a transaction's modes have.
-fn modes_length(e: u64, t: &[u64; 64]) -> usize
-    ensures { (result ≡ length (modes_text e t.now)) × (result ≤ 93) }
-{
-    let pushes = mode_length(e, t[PUSHES] != 0, b"push\n");
-    let looks = mode_length(e, t[LOOKS] != 0, b"look\n");
-    let takes = mode_length(e, t[TAKES] != 0, b"take\n");
-    pushes + looks + takes
 }
 
 // How many bytes the lock listing has, in every order of its lines.
-pub fn listing_length(ts: &[[u64; 64]; 8]) -> usize
-    requires { TransactionsFit ts.now }
-    ensures { (result ≡ length (listing_text ts.now)) × (result ≤ 17832) }
+#[tactic(auto, using(crate::proofs::Listings::listing_rules))]
+pub fn listing_length(transactions: &[Transaction; 8]) -> usize
+    ensures counted { result ≡ length (listing_text transactions.now) }
+    ensures short { result ≤ 17832 }
 {
     let mut sum = 0;
-    let mut i = 0;
-    while i < TRANSACTIONS {
-        let e = (i + 1) as u64;
-        sum += locks_length(e, &ts[i]);
-        sum += modes_length(e, &ts[i]);
-        i += 1;
+    for (i, transaction) in transactions.iter().enumerate() {
+        sum += locks_length(i as u64 + 1, transaction.locks());
     }
     sum
 }
 
-// A line's word, which ends with its comma, and the transaction's number with its own, at a place where they fit, and
-// the place behind them. So do the functions below.
-fn put_start(buf: &mut [u8], at: usize, word: &[u8], e: u64) -> usize
-    requires { at + length (word.now ++ field_text e 44) ≤ length buf.old }
-    ensures { Put buf.old at (word.now ++ field_text e 44) result buf.new }
+// Writes the lines of a transaction's locks at a place where they fit.
+#[tactic(auto, using(crate::proofs::Listings::locks_rules))]
+fn write_locks(buf: &mut [u8], at: usize, e: u64, locks: &HeldLocks) -> Result<usize, Refusal>
+    requires { at + length (locks_text e locks.now) ≤ length buf.old }
+    ensures { (result, buf.new) ≡ written_at buf.old at (locks_text e locks.now) }
 {
-    let Written::Upto(middle) = write_bytes(buf, at, word) else {
-        return at;
-    };
-    let Written::Upto(end) = write_field(buf, middle, e, 44) else {
-        return at;
-    };
-    end
-}
-
-// The line of a cue lock.
-fn put_lock(buf: &mut [u8], at: usize, e: u64, key: u64) -> usize
-    requires { at + length (lock_line e key) ≤ length buf.old }
-    ensures { Put buf.old at (lock_line e key) result buf.new }
-{
-    let middle = put_start(buf, at, b"lock,", e);
-    let Written::Upto(end) = write_cue(buf, middle, Cue::of_key(key)) else {
-        return at;
-    };
-    end
-}
-
-// The line of a mode; a mode that is not held has none.
-fn put_mode(buf: &mut [u8], at: usize, e: u64, held: bool, word: &[u8]) -> usize
-    requires { at + length (mode_text e held word.now) ≤ length buf.old }
-    ensures { Put buf.old at (mode_text e held word.now) result buf.new }
-{
-    if held {
-        let middle = put_start(buf, at, b"mode,", e);
-        let Written::Upto(end) = write_bytes(buf, middle, word) else {
-            return at;
-        };
-        return end;
+    let mut middle = at;
+    for key in locks.cues() {
+        middle = write_bytes(buf, middle, lock_line(e, *key).as_bytes())?;
     }
-    at
-}
-
-// The lines of a transaction's cue locks.
-fn put_locks(buf: &mut [u8], at: usize, e: u64, t: &[u64; 64]) -> usize
-    requires words_fit { WordsFit t.now }
-    requires has_room { at + length (locks_text e t.now) ≤ length buf.old }
-    ensures { Put buf.old at (locks_text e t.now) result buf.new }
-{
-    let n = t[LOCK_COUNT] as usize;
-    let mut end = at;
-    let mut j = 0;
-    while j < n {
-        end = put_lock(buf, end, e, t[j]);
-        j += 1;
-    }
-    end
-}
-
-// The lines of a transaction's modes.
-fn put_modes(buf: &mut [u8], at: usize, e: u64, t: &[u64; 64]) -> usize
-    requires { at + length (modes_text e t.now) ≤ length buf.old }
-    ensures { Put buf.old at (modes_text e t.now) result buf.new }
-{
-    let pushes = put_mode(buf, at, e, t[PUSHES] != 0, b"push\n");
-    let looks = put_mode(buf, pushes, e, t[LOOKS] != 0, b"look\n");
-    put_mode(buf, looks, e, t[TAKES] != 0, b"take\n")
-}
-
-// The lines of a transaction.
-fn put_transaction(buf: &mut [u8], at: usize, e: u64, t: &[u64; 64]) -> usize
-    requires words_fit { WordsFit t.now }
-    requires has_room { at + length (transaction_text e t.now) ≤ length buf.old }
-    ensures { Put buf.old at (transaction_text e t.now) result buf.new }
-{
-    let middle = put_locks(buf, at, e, t);
-    put_modes(buf, middle, e, t)
-}
-
-// The lines of all eight.
-fn put_listing(buf: &mut [u8], at: usize, ts: &[[u64; 64]; 8]) -> usize
-    requires transactions_fit { TransactionsFit ts.now }
-    requires has_room { at + length (listing_text ts.now) ≤ length buf.old }
-    ensures { Put buf.old at (listing_text ts.now) result buf.new }
-{
-    let mut end = at;
-    let mut i = 0;
-    while i < TRANSACTIONS {
-        end = put_transaction(buf, end, (i + 1) as u64, &ts[i]);
-        i += 1;
-    }
-    end
+    write_bytes(buf, middle, mode_lines(e, locks).as_bytes())
 }
 
 // Writes the lock listing at a place of the buffer, if it fits there.
-pub fn write_listing(buf: &mut [u8], at: usize, ts: &[[u64; 64]; 8]) -> Written
-    requires { TransactionsFit ts.now }
-    ensures { ListingWritten (map transaction_of ts.now) at buf.old buf.new result }
+#[tactic(auto, using(crate::proofs::Listings::listing_rules))]
+pub fn write_listing(
+    buf: &mut [u8],
+    at: usize,
+    transactions: &[Transaction; 8],
+) -> Result<usize, Refusal>
+    ensures { ListingWritten transactions.now at buf.old buf.new result }
 {
-    if fits(buf.len(), at, listing_length(ts)) {
-        let end = put_listing(buf, at, ts);
-        return Written::Upto(end);
+    if !fits(buf.len(), at, listing_length(transactions)) {
+        return Err(Refusal::BufferTooShort);
     }
-    Written::Refused(Refusal::BufferTooShort)
+    let mut end = at;
+    for (i, transaction) in transactions.iter().enumerate() {
+        end = write_locks(buf, end, i as u64 + 1, transaction.locks())?;
+    }
+    Ok(end)
 }
