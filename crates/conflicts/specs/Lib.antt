@@ -1,2 +1,1 @@
--- What the code's answers mean.
-pub mod Code
+-- No definitions of its own: the contract speaks in the model's words.
