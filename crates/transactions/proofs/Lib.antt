@@ -1,4 +1,2 @@
--- Laws of the words, by what they show.
-pub mod Words
-pub mod Standings
-pub mod Theorems
+-- What is true of a transaction that is rolled back.
+pub mod Unwinding

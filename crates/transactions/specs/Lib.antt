@@ -1,3 +1,2 @@
--- What the words show, and what the code's enums mean.
-pub mod View
-pub mod Code
+-- The definitions that the contracts cite.
+pub mod Steps

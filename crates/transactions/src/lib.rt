@@ -1,102 +1,118 @@
-// One transaction, kept in 64 lent words and altered in place.
+// A transaction: how it stands, the locks that it holds and its undo log.
 //
-// The words hold the cue locks, the undo log, the standing and the queue's modes (`specs/View`); each function
-// does to them what the model does to a transaction. Here it opens, aborts and closes; its log is in `undo_logs`,
-// what is asked of its locks in `held_locks`, and one more lock in `new_locks`. A `requires` asks for what opening and
-// stepping establish: that the counts are in range, and that the sieve has the bit of each cue lock.
+// Clauses see it as the model's `Transaction`, and each method does to it what the model does: it opens, aborts, closes,
+// takes in an accepted call, and gives its newest entry back to be undone.
 #![tactic(auto)]
 
-ghost use Rattle.std.specs.Prelude.{◌≡◌, ◌<◌, length};
-ghost use Rattle.boosting.specs.Store.{closed_transaction, open_transaction};
+ghost use Rattle.std.specs.Prelude.{◌≡◌, false};
+ghost use Rattle.boosting.specs.Room.{locks_full, log_full};
+ghost use Rattle.boosting.specs.Store.{aborting, closed_transaction, open_transaction};
 ghost use Rattle.boosting.specs.Step.{aborted};
-ghost use Rattle.transactions.specs.View.{WordsFit, Made, transaction_of, sieve_bit};
-ghost use Rattle.transactions.specs.Code.{model_standing};
+ghost use Rattle.undo_logs.specs.Log.{newest};
+ghost use Rattle.transactions.specs.Steps.{accepted, unwound_once};
 
-// A lock on the cue with this key, or one of the queue's modes.
-#[derive(Clone, Copy)]
-pub enum Lock {
-    Cue(u64),
-    Push,
-    Look,
-    Take,
-}
+use held_locks::HeldLocks;
+use std::marker::Model;
+use undo_logs::UndoLog;
+use vocabulary::{Entry, Lock, Standing};
 
-// An aborting transaction still holds its locks.
 #[derive(Drop)]
-pub enum Standing {
-    Closed,
-    Open,
-    Aborting,
+pub struct Transaction {
+    standing: Standing,
+    locks: HeldLocks,
+    log: UndoLog,
 }
 
-// Where the words of the standing, the modes and the counts are; the cue locks come first.
-const STANDING: usize = 56;
+impl Model for Transaction {
+    ghost use Rattle.boosting.specs.Store.{Transaction as ModelTransaction};
 
-pub const PUSHES: usize = 57;
+    ghost Value = { ModelTransaction };
 
-pub const LOOKS: usize = 58;
-
-pub const TAKES: usize = 59;
-
-pub const LOCK_COUNT: usize = 60;
-
-pub const ENTRY_COUNT: usize = 61;
-
-// Where the sieve is: it has the bit `sieve_bit(key)` of each cue lock, so that most locks are ruled out at a glance.
-pub const SIEVE: usize = 62;
-
-// The bit of a key in the sieve: the sum of the low bits of its pin and of its time, which costs no multiplication.
-pub fn sieve_bit(key: u64) -> u64
-    ensures { (result ≡ sieve_bit key) × (result < 64) }
-{
-    (key % 64 + key / 65536 % 64) % 64
+    ghost view = { λ t. record { standing = t.standing; locks = t.locks; log = t.log } };
 }
 
-// What the standing's word says; a mode that is held is 1, one that is not 0.
-const CLOSED: u64 = 0;
-
-const OPEN: u64 = 1;
-
-const ABORTING: u64 = 2;
-
-// How the transaction stands.
-pub fn standing_of(t: &[u64; 64]) -> Standing
-    ensures { model_standing result ≡ (transaction_of t.now).standing }
-{
-    match t[STANDING] {
-        CLOSED => Standing::Closed,
-        OPEN => Standing::Open,
-        _ => Standing::Aborting,
+#[tactic(auto, unfolding(boosting::specs::Store::closed_transaction, boosting::specs::Store::open_transaction))]
+impl Transaction {
+    // A closed transaction.
+    pub fn new() -> Self
+        ensures { result ≡ closed_transaction }
+    {
+        Transaction {
+            standing: Standing::Closed,
+            locks: HeldLocks::new(),
+            log: UndoLog::new(),
+        }
     }
-}
 
-// The transaction closes: its locks are free and its log is empty.
-pub fn close(t: &mut [u64; 64])
-    requires { length t.old ≡ 64 }
-    ensures { Made t.new closed_transaction }
-{
-    t[STANDING] = CLOSED;
-    t[PUSHES] = 0;
-    t[LOOKS] = 0;
-    t[TAKES] = 0;
-    t[LOCK_COUNT] = 0;
-    t[ENTRY_COUNT] = 0;
-    t[SIEVE] = 0;
-}
+    #[inline(always)]
+    pub fn standing(&self) -> Standing
+        ensures { result ≡ self.now.standing }
+    {
+        self.standing
+    }
 
-// The transaction opens, with no lock and no entry.
-pub fn begin(t: &mut [u64; 64])
-    requires { WordsFit t.old }
-    ensures { Made t.new open_transaction }
-{
-    close(t);
-    t[STANDING] = OPEN;
-}
+    #[inline(always)]
+    pub fn locks(&self) -> &HeldLocks
+        ensures { result.now ≡ self.now.locks }
+    {
+        &self.locks
+    }
 
-// The transaction is aborting from now on: it keeps its locks and its log.
-pub fn abort(t: &mut [u64; 64])
-    requires { WordsFit t.old }
-    ensures { Made t.new (aborted (transaction_of t.old)) }
-{
-    t[STANDING] = ABORTING;
+    #[inline(always)]
+    pub fn log(&self) -> &UndoLog
+        ensures { result.now ≡ self.now.log }
+    {
+        &self.log
+    }
+
+    // It opens, with no lock and no entry.
+    pub fn begin(&mut self)
+        ensures { self.new ≡ open_transaction }
+    {
+        self.close();
+        self.standing = Standing::Open;
+    }
+
+    // It closes: its locks are free and its log is empty.
+    pub fn close(&mut self)
+        ensures { self.new ≡ closed_transaction }
+    {
+        self.locks.clear();
+        self.log.clear();
+        self.standing = Standing::Closed;
+    }
+
+    // It is aborting from now on: it keeps its locks and its log.
+    pub fn abort(&mut self)
+        ensures { self.new ≡ aborted self.old }
+    {
+        self.standing = Standing::Aborting;
+    }
+
+    // It holds the lock of an accepted call, and notes its entry. There has to be room for both.
+    #[inline(always)]
+    pub fn accept(&mut self, lock: Lock, entry: Option<Entry>)
+        requires lock_room { locks_full lock self.old.locks ≡ false }
+        requires log_room { log_full entry self.old.log ≡ false }
+        ensures { self.new ≡ accepted lock entry self.old }
+    {
+        self.locks.hold(lock);
+        if let Some(entry) = entry {
+            self.log.note(entry);
+        }
+    }
+
+    // Its newest entry, if there is one, is to be undone: the log loses it, and with no entry left it closes.
+    #[tactic(auto, using(crate::proofs::Unwinding::unwound_some), unfolding(boosting::specs::Store::closed_transaction))]
+    pub fn take_newest(&mut self) -> Option<Entry>
+        requires { self.old.standing ≡ aborting }
+        ensures newest { result ≡ newest self.old.log }
+        ensures rest { self.new ≡ unwound_once self.old }
+    {
+        let newest = self.log.take_newest();
+        if self.log.len() == 0 {
+            self.close();
+        }
+        newest
+    }
 }
