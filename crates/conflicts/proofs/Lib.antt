@@ -1,2 +1,2 @@
--- Laws of the search, transaction by transaction.
-pub mod Blocking
+-- Laws of the search.
+pub mod Blockers

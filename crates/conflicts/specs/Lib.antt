@@ -1,2 +1,1 @@
--- The modes of the queue by their words.
-pub mod Modes
+-- No definitions of its own: the contract speaks in the model's words.

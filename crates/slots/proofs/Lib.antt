@@ -1,4 +1,3 @@
 -- Laws of the slots in use, and of the bound that spares their count.
-pub mod AllEntries
-pub mod QueueSlots
-pub mod ScriptSlots
+pub mod Counts
+pub mod Reserved

@@ -1,117 +1,101 @@
 // Slots: whether the script and the queue have room for one more cue, with the slots that undo entries keep.
 //
-// The words are read where they stand (`store_words`) and nothing is changed. A `requires` asks for what opening and
-// stepping establish of them.
+// An add or remove entry keeps the slot of its cue in the script, a take entry one slot of the queue. The queue's slots
+// are a sum of counts; those of the script are gathered in a scratch table, and only where there can be too many.
 #![tactic(auto)]
 
-ghost use Rattle.std.specs.Prelude.{◌≡◌, [], ◌∷◌, map, ◌+◌, ◌<◌, ◌≤◌, nat_le, length, take, Some};
-ghost use Rattle.tables.specs.Table.{Ordered};
+ghost use Rattle.std.specs.Prelude.{◌≡◌, ◌+◌, ◌<◌, ◌≤◌, [], ◌∷◌, nat_le, length, Some};
 ghost use Rattle.boosting.specs.Undo.{added};
 ghost use Rattle.boosting.specs.Room.{reserved_by, reserved_in, takes_in, script_full};
-ghost use Rattle.transactions.specs.View.{WordsFit, transaction_of};
-ghost use Rattle.store_words.specs.Words.{ScriptFits, QueueFits, TransactionsFit, script_in, queue_in};
 ghost use Rattle.slots.specs.Entries.{entries_in};
 
-use store_words::{QUEUE_COUNT, SCRIPT_COUNT};
+use shared_object::SharedObject;
+use sorted_keys::SortedKeys;
+use transactions::Transaction;
+use undo_logs::UndoLog;
 use vocabulary::Entry;
 
+// The script's cues, and one more for each of the 128 entries that eight logs have at most; one slot is spare.
+const MOST: usize = 385;
+
 // How many entries the logs have together: an entry keeps at most one slot, of the script or of the queue.
-fn all_entries(ts: &[[u64; 64]; 8]) -> usize
-    requires { TransactionsFit ts.now }
-    ensures { (result ≡ entries_in (map transaction_of ts.now)) × (result ≤ 128) }
+#[tactic(auto, using(crate::proofs::Counts::count_rules))]
+fn all_entries(transactions: &[Transaction; 8]) -> usize
+    ensures value { result ≡ entries_in transactions.now }
+    ensures fits { result ≤ 128 }
 {
-    let mut entries: usize = 0;
-    for t in ts {
-        entries += undo_logs::entry_count(t);
+    let mut entries = 0;
+    for transaction in transactions {
+        entries += transaction.log().len();
     }
     entries
 }
 
 // The queue's slots in use: its cues, and the take entries of the logs.
-fn queue_slots(queue: &[u64; 65], ts: &[[u64; 64]; 8]) -> usize
-    requires { QueueFits queue.now × TransactionsFit ts.now }
-    ensures { result ≡ length (queue_in queue.now) + takes_in (map transaction_of ts.now) }
+#[tactic(auto, using(crate::proofs::Counts::count_rules))]
+fn queue_slots(object: &SharedObject, transactions: &[Transaction; 8]) -> usize
+    ensures { result ≡ length object.now.queue + takes_in transactions.now }
 {
-    let mut slots = queue[QUEUE_COUNT] as usize;
-    for t in ts {
-        slots += undo_logs::take_count(t);
+    let mut slots = object.queue().len();
+    for transaction in transactions {
+        slots += usize::from(transaction.log().takes());
     }
     slots
 }
 
-// Whether a 65th slot of the queue is needed. The slots are counted only where there can be so many.
-pub fn queue_full(queue: &[u64; 65], ts: &[[u64; 64]; 8]) -> bool
-    requires { QueueFits queue.now × TransactionsFit ts.now }
-    ensures { result
-        ≡ nat_le 64 (length (queue_in queue.now) + takes_in (map transaction_of ts.now)) }
+// Whether a 65th slot of the queue is needed.
+pub fn queue_full(object: &SharedObject, transactions: &[Transaction; 8]) -> bool
+    ensures { result ≡ nat_le 64 (length object.now.queue + takes_in transactions.now) }
 {
-    let cues = queue[QUEUE_COUNT] as usize;
-    if cues + all_entries(ts) < 64 {
-        return false;
-    }
-    64 <= queue_slots(queue, ts)
+    64 <= queue_slots(object, transactions)
 }
 
-// The slot that an entry keeps is put among the first n: only add and remove entries keep one.
-fn reserve_entry(keys: &mut [u64], n: usize, entry: Entry) -> usize
-    requires { (n < length keys.old) × Ordered 1 (take n keys.old) }
-    ensures { (take result keys.new ≡ reserved_by (entry ∷ []) (take n keys.old))
-        × (result ≤ n + 1) }
+// The slot that an entry keeps is put among those that are there: only add and remove entries keep one.
+#[tactic(auto, using(crate::proofs::Reserved::entry_rules), unfolding(boosting::specs::Room::reserved_by))]
+fn reserve_entry(slots: &mut SortedKeys<MOST>, entry: Entry)
+    requires { length slots.old < 385 }
+    ensures { slots.new ≡ reserved_by (entry ∷ []) slots.old }
 {
     match entry {
-        Entry::Added(key) => ranks::put_once(keys, n, key),
-        Entry::Removed(key) => ranks::put_once(keys, n, key),
-        Entry::Pushed(_) => n,
-        Entry::Taken(_) => n,
+        Entry::Added(key) | Entry::Removed(key) => {
+            slots.insert_once(key);
+        }
+        Entry::Pushed(_) | Entry::Taken(_) => {}
     }
 }
 
-// The slots that a transaction's log keeps are put among the first n, each once.
-fn reserve_log(keys: &mut [u64], n: usize, t: &[u64; 64]) -> usize
-    requires { WordsFit t.now × (n + 16 < length keys.old) × Ordered 1 (take n keys.old) }
-    ensures { (take result keys.new
-        ≡ reserved_by (transaction_of t.now).log (take n keys.old)) × (result ≤ n + 16) }
+// The slots that a log keeps are put among those that are there, each once.
+#[tactic(auto, using(crate::proofs::Reserved::log_rules))]
+fn reserve_log(slots: &mut SortedKeys<MOST>, log: &UndoLog)
+    requires { length slots.old + 16 ≤ 385 }
+    ensures with_them { slots.new ≡ reserved_by log.now slots.old }
+    ensures at_most { length slots.new ≤ length slots.old + 16 }
 {
-    let entries = undo_logs::entry_count(t);
-    let mut m = n;
-    for j in 0..entries {
-        m = reserve_entry(keys, m, undo_logs::entry_at(t, j));
+    for entry in log.entries() {
+        reserve_entry(slots, *entry);
     }
-    m
 }
 
-// The cues that have a slot of the script, in order: how many there are.
-fn reserve_all(keys: &mut [u64], script: &[u64; 257], ts: &[[u64; 64]; 8]) -> usize
-    requires script_fits { ScriptFits script.now × Ordered 1 (script_in script.now) }
-    requires transactions_fit { TransactionsFit ts.now × (length keys.old ≡ 385) }
-    ensures { (take result keys.new
-        ≡ reserved_in (map transaction_of ts.now) (script_in script.now)) × (result ≤ 384) }
+// The cues that have a slot of the script.
+#[tactic(auto, using(crate::proofs::Reserved::all_rules))]
+fn reserve_all(slots: &mut SortedKeys<MOST>, object: &SharedObject, transactions: &[Transaction; 8])
+    ensures { slots.new ≡ reserved_in transactions.now object.now.script }
 {
-    let mut n = script[SCRIPT_COUNT] as usize;
-    tables::copy_keys(keys, script, n);
-    let mut i = 8;
-    while 0 < i {
-        i -= 1;
-        n = reserve_log(keys, n, &ts[i]);
+    slots.copy_from(object.script());
+    for i in (0..8).rev() {
+        reserve_log(slots, transactions[i].log());
     }
-    n
 }
 
-// Whether the cue needs a 257th slot of the script. The slots are counted only where there can be so many.
-pub fn script_full(script: &[u64; 257], ts: &[[u64; 64]; 8], key: u64) -> bool
-    requires { ScriptFits script.now × Ordered 1 (script_in script.now) × TransactionsFit ts.now }
-    ensures { result ≡ script_full (Some (added key))
-        (reserved_in (map transaction_of ts.now) (script_in script.now)) }
+// Whether the cue needs a 257th slot of the script. The slots are gathered only where there can be so many.
+#[tactic(auto, using(crate::proofs::Reserved::room_rules))]
+pub fn script_full(object: &SharedObject, transactions: &[Transaction; 8], key: u64) -> bool
+    ensures { result ≡ script_full (Some (added key)) (reserved_in transactions.now object.now.script) }
 {
-    let cues = script[SCRIPT_COUNT] as usize;
-    if cues + all_entries(ts) < 256 {
+    if object.script().len() + all_entries(transactions) < 256 {
         return false;
     }
-    let mut keys = [0; 385];
-    let n = reserve_all(&mut keys, script, ts);
-    if n < 256 {
-        return false;
-    }
-    let at = ranks::rank(&keys, n, key);
-    !ranks::stands_at(&keys, n, at, key)
+    let mut slots = SortedKeys::new();
+    reserve_all(&mut slots, object, transactions);
+    256 <= slots.len() && !slots.contains(key)
 }

@@ -1,11 +1,10 @@
--- `slots::queue_slots` meets its contract: the slots counted and those left to count are all.
-use Rattle.std.proofs.Common.{drop, length, map, ◌*◌, ◌+◌, ◌≡◌, ◌≤◌}
+-- The slots counted and those left to count are all.
+use Rattle.std.proofs.Common.{drop, length, ◌*◌, ◌+◌, ◌≡◌, ◌≤◌}
 use Rattle.boosting.specs.Room.{takes_in}
-use Rattle.store_words.specs.Words.{queue_in}
-use Rattle.transactions.specs.View.{transaction_of}
 use Rattle.slots.proofs.queue_slots.Given as goal
 
-abbrev pub invariant-loop-t : goal.invariant-loop-t
-invariant-loop-t l =
-    (l.slots ≤ 64 + 16 * l.t-index)
-    × (l.slots + takes_in (drop l.t-index (map transaction_of l.ts)) ≡ length (queue_in l.queue) + takes_in (map transaction_of l.ts))
+abbrev pub invariant-loop-transaction : goal.invariant-loop-transaction
+invariant-loop-transaction l = record {
+  counted : l.slots + takes_in (drop l.transaction-index l.transactions) ≡ length l.object.queue + takes_in l.transactions;
+  fits : l.slots ≤ 64 + 255 * l.transaction-index;
+}
