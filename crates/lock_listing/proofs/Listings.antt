@@ -46,7 +46,20 @@ pub unheld_text : (e : ℕ) (held : Bool) (word : List ℕ) → held ≡ false �
 unfolding flatten
 unheld_text e held word h = rw h
 
-pub ruleset mode_rules = (held_text, unheld_text)
+-- a mode's line behind other lines
+module _ (e : ℕ) (held : Bool) (word lines : List ℕ) where
+  pub pushed_held : (one two three : List ℕ) → one ≡ lines ++ bytes "mode," → two ≡ one ++ field_text e 44
+      → three ≡ two ++ word → held ≡ true → three ≡ lines ++ mode_text e held word
+  pushed_held one two three p q r h =
+      let mode = bytes "mode," in
+      let field = field_text e 44 in
+      r ∙ rw (q, p, held_text e held word h)
+      (ap (λ (x : List ℕ). x ++ word) (append_assoc lines mode field) ∙ append_assoc lines (mode ++ field) word)
+
+  pub pushed_none : held ≡ false → lines ≡ lines ++ mode_text e held word
+  pushed_none h = rw (unheld_text e held word h) (sym (append-nil lines))
+
+pub ruleset mode_rules = (held_length, unheld_text, pushed_none)
 
 -- ---- one transaction
 pub flatten-append : (ls ms : List (List ℕ)) → flatten (ls ++ ms) ≡ flatten ls ++ flatten ms
@@ -98,6 +111,13 @@ module _ (e : ℕ) (l : Locks) (j : ℕ) where
         ≡ length (lock_line e (get_or l.cues j k)) + length (locks_from e l (j + 1))
     locks_next_length = ap length locks_next ∙ length-append (lock_line e (get_or l.cues j k)) (locks_from e l (j + 1))
 
+  -- the line that is written next
+  pub locks_part : (items line : List ℕ) (k : ℕ) → items ≡ l.cues → j < length items
+      → line ≡ lock_line e (get_or items j k) → locks_from e l j ≡ line ++ locks_from e l (j + 1)
+  locks_part items line k q h r =
+      let g : j < length l.cues = omega (arith, ap length q) in
+      locks_next k g ∙ rw (r, q) refl
+
   pub locks_over : length l.cues ≤ j → locks_from e l j ≡ modes_text e l
   unfolding lock_lines
   locks_over h = rw (drop_all j l.cues h) refl
@@ -119,6 +139,11 @@ module _ (ts : List Transaction) (i : ℕ) where
         ≡ length (locks_text (i + 1) (get_or ts i t).locks) + length (listing_after ts (i + 1))
     listing_next_length =
         ap length listing_next ∙ length-append (locks_text (i + 1) (get_or ts i t).locks) (listing_after ts (i + 1))
+
+  -- the lines that are written next
+  pub listing_part : (t : Transaction) (l : Locks) → i < length ts → l ≡ (get_or ts i t).locks
+      → listing_after ts i ≡ locks_text (i + 1) l ++ listing_after ts (i + 1)
+  listing_part t l h q = listing_next t h ∙ rw q refl
 
   pub listing_over : length ts ≤ i → listing_after ts i ≡ []
   unfolding flatten listing_from
