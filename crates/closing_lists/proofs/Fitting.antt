@@ -27,11 +27,11 @@ list_length word keys =
       field_length (length keys) 10,
     )
 
-closing_length : (s : State)
+pub both_counted : (s : State)
     → length (closing_text s)
     ≡ length (list_text (bytes "script,") s.script) + length (list_text (bytes "queue,") s.queue)
 unfolding closing_text
-closing_length s = length-append (list_text (bytes "script,") s.script) (list_text (bytes "queue,") s.queue)
+both_counted s = length-append (list_text (bytes "script,") s.script) (list_text (bytes "queue,") s.queue)
 
 -- those of a store that stepping can reach never have more than 4,500 bytes
 pub closing_fits : (d : Store) → Sound d → length (closing_text d.state) ≤ 4500
@@ -43,7 +43,7 @@ closing_fits d v =
     let b : length q < 10 ^ 2 = omega (arith, r.1) in
     omega (
       arith,
-      closing_length d.state,
+      both_counted d.state,
       list_length (bytes "script,") s,
       list_length (bytes "queue,") q,
       text_fits s r.0,

@@ -1,91 +1,63 @@
--- Laws of the closing lists: the keys of a table are those of the store, and a list is its count and its cue lines.
--- Assumes nothing.
-use mathlib.Core.Path.{◌≡◌, sym, ap, ◌∙◌}
+-- A list is its count and its cue lines, and all of it is written where it fits. Assumes nothing.
+use mathlib.Core.Path.{◌≡◌, refl, sym, ap, ◌∙◌}
 use mathlib.Core.List.{List, ◌++◌}
 use Prim.Native.Nat.{ℕ, ◌+◌, ◌≤◌}
 use native.Mathlib.Omega.{arith}
-use lib.ListN.{length, take, get_or, length-append}
-use lib.Seq.{take-take, length-take-le}
-use Rattle.buffers.specs.Put.{Put}
-use Rattle.buffers.proofs.Puts.{first_fits, rest_fits, both_put}
+use lib.ListN.{length, length-append}
+use lib.Seq.{take-take}
+use Rattle.std.specs.Prelude.{Result, Ok, Err}
+use Rattle.std.proofs.lemmas.List.{take_all}
+use Rattle.refusals.specs.declared.Refusal.{Refusal}
+use Rattle.buffers.specs.Written.{written_at}
+use Rattle.buffers.proofs.Answers.{not_refused}
+use Rattle.buffers.proofs.Puts.{wrote, both_written, first_fits, rest_fits}
 use Rattle.lines.specs.Ascii.{bytes}
 use Rattle.digits.specs.Digits.{digits_of}
-use Rattle.records.specs.Record.{field_text}
 use Rattle.scripts.specs.Script.{keys_in}
 use Rattle.scripts.specs.ScriptText.{text_of}
-use Rattle.store_words.specs.Words.{script_in, state_of, ScriptFits, QueueFits}
+use Rattle.boosting.specs.Object.{State}
 use Rattle.closing_lists.specs.Closing.{list_text, closing_text}
 use Rattle.closing_lists.proofs.Fitting.{list_length}
 
--- ---- one list
--- with the count that the code writes
-abbrev pub counted_text : List ℕ → List ℕ → ℕ → List ℕ
-counted_text word keys n = (word ++ field_text n 10) ++ text_of keys
+-- the keys of a table that is no longer than a script
+pub all_keys : (keys : List ℕ) → length keys ≤ 256 → keys_in keys (length keys) ≡ keys
+all_keys keys h = take-take (length keys) 256 keys h ∙ take_all (length keys) keys (omega arith)
 
-pub counted_text_lem : (word keys : List ℕ) (n : ℕ) → length keys ≡ n → counted_text word keys n ≡ list_text word keys
-counted_text_lem word keys n e = ap (λ (m : ℕ). (word ++ field_text m 10) ++ text_of keys) (sym e)
+pub list_counted : (word keys : List ℕ) → length keys ≤ 256
+    → length word + length (digits_of (length keys)) + 1 + length (text_of (keys_in keys (length keys)))
+    ≡ length (list_text word keys)
+list_counted word keys h =
+    omega (arith, list_length word keys, ap (λ (ks : List ℕ). length (text_of ks)) (all_keys keys h))
 
-pub counted_fits : (buf word keys : List ℕ) (at n : ℕ) → length keys ≡ n
-    → at + length (list_text word keys) ≤ length buf → at + length (counted_text word keys n) ≤ length buf
-counted_fits buf word keys at n e h = rw (counted_text_lem word keys n e) h
-
-pub list_counted : (word keys : List ℕ) (n d l : ℕ) → length keys ≡ n → d ≡ length (digits_of n)
-    → l ≡ length (text_of keys) → length word + d + 1 + l ≡ length (list_text word keys)
-list_counted word keys n d l e ed el =
-    let q : length (digits_of (length keys)) ≡ length (digits_of n) = ap (λ (m : ℕ). length (digits_of m)) e in
-    omega (arith, list_length word keys)
-
--- ---- the keys of a table
-keys_taken : (words : List ℕ) (n : ℕ) → n ≤ 256 → keys_in words n ≡ take n words
-keys_taken words n h = take-take n 256 words h
-
-keys_count : (words : List ℕ) (n : ℕ) → n ≤ 256 → n ≤ length words → length (keys_in words n) ≡ n
-keys_count words n h l = ap length (keys_taken words n h) ∙ length-take-le n words l
-
-module _ (s q : List ℕ) (fs : ScriptFits s) (fq : QueueFits q) where
-  abbrev script_keys : List ℕ
-  script_keys = keys_in s (get_or s 256 0)
-
-  abbrev queue_keys : List ℕ
-  queue_keys = keys_in q (get_or q 64 0)
-
-  pub script_count : length script_keys ≡ get_or s 256 0
-  script_count = keys_count s (get_or s 256 0) fs.count_le (omega (arith, fs.count_le, fs.long))
-
-  pub queue_count : length queue_keys ≡ get_or q 64 0
-  queue_count = keys_count q (get_or q 64 0) (omega (arith, fq.count_le)) (omega (arith, fq.count_le, fq.long))
-
+-- both lists, where all of the closing text fits
+module _ (s : State) (script queue : List ℕ) (p : script ≡ s.script) (q : queue ≡ s.queue) (buf : List ℕ) (at : ℕ)
+    (h : at + length (closing_text s) ≤ length buf) where
   abbrev script_list : List ℕ
-  script_list = list_text (bytes "script,") script_keys
+  script_list = list_text (bytes "script,") script
 
   abbrev queue_list : List ℕ
-  queue_list = list_text (bytes "queue,") queue_keys
+  queue_list = list_text (bytes "queue,") queue
 
-  -- the two lists are the closing text
-  closing_text_lem : closing_text (state_of s q) ≡ script_list ++ queue_list
+  in_order : closing_text s ≡ script_list ++ queue_list
   unfolding closing_text
-  closing_text_lem =
-      let a = keys_taken s (get_or s 256 0) fs.count_le in
-      let b = keys_taken q (get_or q 64 0) (omega (arith, fq.count_le)) in
-      sym
-      (ap (λ (x : List ℕ). list_text (bytes "script,") x ++ queue_list) a
-      ∙ ap (λ (x : List ℕ). list_text (bytes "script,") (script_in s) ++ list_text (bytes "queue,") x) b)
+  in_order = rw (p, q) refl
 
-  pub closing_counted : (m n : ℕ) → m ≡ length script_list → n ≡ length queue_list
-      → m + n ≡ length (closing_text (state_of s q))
-  closing_counted m n em en =
-      let e = ap length closing_text_lem in omega (arith, length-append script_list queue_list, e)
+  pub script_fits : at + length script_list ≤ length buf
+  script_fits = first_fits buf script_list queue_list (closing_text s) at in_order h
 
-  module _ (buf : List ℕ) (at : ℕ) (h : at + length (closing_text (state_of s q)) ≤ length buf) where
-    pub script_fits : at + length script_list ≤ length buf
-    script_fits = first_fits buf script_list queue_list (closing_text (state_of s q)) at closing_text_lem h
+  module _ (mid : List ℕ) (r : Result ℕ Refusal) (w : (r, mid) ≡ written_at buf at script_list) where
+    pub script_not_refused : (why : Refusal) → r ≡ Err why → ⊥
+    script_not_refused why = not_refused buf mid script_list r at why script_fits w
 
-    pub queue_fits : (mid : List ℕ) (middle : ℕ) → Put buf at script_list middle mid
-        → middle + length queue_list ≤ length mid
-    queue_fits mid middle p =
-        rest_fits buf script_list queue_list (closing_text (state_of s q)) at closing_text_lem mid middle p h
+    module _ (middle : ℕ) (g : r ≡ Ok middle) where
+      pub queue_fits : middle + length queue_list ≤ length mid
+      queue_fits =
+          rest_fits buf script_list queue_list (closing_text s) at in_order mid middle
+          (wrote buf mid script_list r at middle script_fits w g) h
 
-    pub closing_put : (mid after : List ℕ) (middle end : ℕ) → Put buf at script_list middle mid
-        → Put mid middle queue_list end after → Put buf at (closing_text (state_of s q)) end after
-    closing_put mid after middle end p r =
-        both_put buf script_list queue_list (closing_text (state_of s q)) at closing_text_lem mid middle p after end r
+      pub closing_written : (after : List ℕ) (r₂ : Result ℕ Refusal) → (r₂, after) ≡ written_at mid middle queue_list
+          → (r₂, after) ≡ written_at buf at (closing_text s)
+      closing_written after r₂ e =
+          let n : at + (length script_list + length queue_list) ≤ length buf
+          = omega (arith, ap length in_order, length-append script_list queue_list, h) in
+          both_written buf mid after script_list queue_list r r₂ at middle n w g e ∙ ap (written_at buf at) (sym in_order)
