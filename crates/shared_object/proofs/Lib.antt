@@ -1,0 +1,2 @@
+-- Calls that change nothing.
+pub mod Calls

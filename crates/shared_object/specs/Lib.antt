@@ -1,0 +1,2 @@
+-- What the calls need.
+pub mod Room
