@@ -6,6 +6,7 @@ use native.Mathlib.Omega.{arith}
 use native.Mathlib.Numerals.{add-one}
 use lib.ListN.{length, get_or, take, drop, length-take, length-append, drop_of_length-le}
 use lib.Seq.{drop-cons, sets}
+use Rattle.std.proofs.Math.Seq.{take_all}
 use Rattle.std.proofs.lemmas.List.{take-take, take_min}
 use Rattle.buffers.proofs.Laws.{sets-append}
 use Rattle.cues.specs.Cue.{cue_of}
@@ -25,6 +26,12 @@ keys_taken words n =
     let m = min n (length (take 256 words)) in
     ap (λ (k : ℕ). take k words) (length-take n (take 256 words))
     ∙ (sym (take-take m 256 words (omega (arith, length-take 256 words))) ∙ take_min n (take 256 words))
+
+-- a table of at most 256 keys has no others
+pub all_keys : (keys : List ℕ) → length keys ≤ 256 → keys_in keys (length keys) ≡ keys
+all_keys keys h =
+    let t : take 256 keys ≡ keys = take_all 256 keys h in
+    rw t (take_all (length keys) keys (omega arith))
 
 -- ---- one cue more
 module _ (ks : List ℕ) (i : ℕ) (h : i < length ks) where

@@ -6,7 +6,7 @@
 
 ghost use Rattle.std.specs.Prelude.{◌≡◌, ◌≤◌, length};
 ghost use Rattle.buffers.specs.Written.{written_at};
-ghost use Rattle.scripts.specs.Script.{keys_in, keys_of};
+ghost use Rattle.scripts.specs.Script.{keys_in};
 ghost use Rattle.scripts.specs.ScriptText.{text_of};
 
 use buffers::fits;
@@ -61,15 +61,19 @@ pub fn write_cues(buf: &mut [u8], at: usize, keys: &[u64], n: usize) -> Result<u
 }
 
 // How many bytes the normal form of a script has.
+#[tactic(auto, using(crate::proofs::Laws::all_keys))]
 pub fn script_length(script: Script) -> usize
-    ensures { result ≡ length (text_of (keys_of script)) }
+    ensures { result ≡ length (text_of script) }
 {
-    cues_length(&script.keys, script.count)
+    let keys = script.keys();
+    cues_length(keys, keys.len())
 }
 
 // Writes the normal form of a script to the front of the buffer, if it fits there.
+#[tactic(auto, using(crate::proofs::Laws::all_keys))]
 pub fn write_script(buf: &mut [u8], script: Script) -> Result<usize, Refusal>
-    ensures { (result, buf.new) ≡ written_at buf.old 0 (text_of (keys_of script)) }
+    ensures { (result, buf.new) ≡ written_at buf.old 0 (text_of script) }
 {
-    write_cues(buf, 0, &script.keys, script.count)
+    let keys = script.keys();
+    write_cues(buf, 0, keys, keys.len())
 }

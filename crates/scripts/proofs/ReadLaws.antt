@@ -1,34 +1,57 @@
 -- Laws of reading a script, a key and a line at a time. Assumes nothing.
 use mathlib.Core.Path.{◌≡◌, refl}
 use mathlib.Core.Bool.{Bool, true, false, cond}
-use mathlib.Core.List.{List, [], ◌∷◌, ◌++◌}
+use mathlib.Core.List.{List, [], ◌∷◌}
 use Prim.Native.Nat.{ℕ, ◌+◌, ◌≤◌, ◌<◌}
 use native.Mathlib.Omega.{arith}
 use lib.Dec.{ltb}
-use lib.ListN.{length, take, drop}
-use borrow.Author.Tests.{lt-ltb, le-ltb}
+use lib.ListN.{length}
+use borrow.Author.Tests.{ltb-true, ltb-false, lt-ltb, le-ltb}
+use Rattle.std.proofs.lemmas.Bool.{both_ways}
 use Rattle.refusals.specs.declared.Refusal.{Refusal}
 use Rattle.refusals.specs.declared.Refusal.TheVariants.{ScriptFull, TextTooLong}
 use Rattle.lines.specs.Lines.{lines_of}
 use Rattle.cues.specs.Cue.{key_of}
 use Rattle.cue_lines.specs.CueLine.{cue_line_of}
-use Rattle.tables.specs.Table.{Ordered, rank_of, member_of, insert_of}
-use Rattle.tables.proofs.Laws.{insert_split, insert_ordered, Apart-new}
+use Rattle.tables.specs.Table.{Ordered, member_of, insert_of, put_once_of}
+use Rattle.tables.proofs.Laws.{split, length_insert, insert_ordered, Apart-new}
 use Rattle.std.specs.Prelude.{Result, Ok, Err}
 use Rattle.cues.specs.declared.Cue.{Cue}
 use Rattle.scripts.specs.Script.{by_key, by_line, refused_at, read_from, script_of}
 
 -- ---- one key
-pub key_known : (t : List ℕ) (k : ℕ) (b : Bool) → b ≡ member_of k t → b ≡ true → Ok t ≡ by_key t k
-key_known t k b eb e = rw (← eb, e)
+pub key_full : (t : List ℕ) (k : ℕ) → length t ≡ 256 → member_of k t ≡ false → Err ScriptFull ≡ by_key t k
+key_full t k h e = rw (e, le-ltb (length t) 256 (omega (arith, h))) refl
 
-pub key_full : (t : List ℕ) (k : ℕ) (b : Bool) → b ≡ member_of k t → b ≡ false → 256 ≤ length t
-    → Err ScriptFull ≡ by_key t k
-key_full t k b eb e h = rw (← eb, e, le-ltb _ _ h)
+-- a key that is there, or finds room, is put in once
+pub key_taken : (t : List ℕ) (k : ℕ) → length t ≤ 256 → (length t ≡ 256 → member_of k t ≡ true) → Ok (put_once_of k t) ≡ by_key t k
+unfolding put_once_of
+key_taken t k h there =
+    split (member_of k t) (λ e. rw e refl)
+    (λ e. rw (e, lt-ltb (length t) 256 (short e)) refl)
+  where
+    short : member_of k t ≡ false → length t < 256
+    short e =
+        split (ltb (length t) 256) (λ q. ltb-true _ _ q)
+        (λ q.
+        let full : length t ≡ 256 = omega (arith, h, ltb-false _ _ q) in
+        absurd (both_ways _ e (there full)))
 
-pub key_new : (t u : List ℕ) (k at : ℕ) (b : Bool) → b ≡ member_of k t → b ≡ false → length t < 256 → at ≡ rank_of k t
-    → u ≡ take at t ++ k ∷ drop at t → Ok u ≡ by_key t k
-key_new t u k at b eb e h ea eu = rw (← eb, e, lt-ltb _ _ h, eu, ea, insert_split k t)
+-- and so there is room for it
+pub key_room : (t : List ℕ) (k : ℕ) → length t ≤ 256 → (length t ≡ 256 → member_of k t ≡ true) → length (put_once_of k t) ≤ 256
+unfolding put_once_of
+key_room t k h there =
+    split (member_of k t) (λ e. rw e h)
+    (λ e. rw e (omega (arith, length_insert k t, short e)))
+  where
+    short : member_of k t ≡ false → length t < 256
+    short e =
+        split (ltb (length t) 256) (λ q. ltb-true _ _ q)
+        (λ q.
+        let full : length t ≡ 256 = omega (arith, h, ltb-false _ _ q) in
+        absurd (both_ways _ e (there full)))
+
+pub ruleset key_rules = (key_full, key_taken, key_room)
 
 -- ---- one line
 pub by_cue : (x : Result (List ℕ) Refusal) (t : List ℕ) (l : Result Cue Refusal) (k : ℕ) (c : _) → l ≡ Ok c → k ≡ key_of c → x ≡ by_key t k

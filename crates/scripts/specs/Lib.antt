@@ -1,4 +1,4 @@
-pub mod Count
 pub mod Script
 pub mod ScriptText
+pub mod Taken
 pub mod Theorems

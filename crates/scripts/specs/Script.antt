@@ -8,19 +8,10 @@ use Rattle.cues.specs.Cue.{key_of}
 use Rattle.cues.specs.declared.Cue.{Cue}
 use Rattle.cue_lines.specs.CueLine.{cue_line_of}
 use Rattle.tables.specs.Table.{member_of, insert_of}
-use Rattle.scripts.specs.declared.reading.Script.{Script}
 
 -- the keys of a table: its first n words, and never more than 256
 abbrev pub keys_in : List ℕ → ℕ → List ℕ
 keys_in words n = take n (take 256 words)
-
-abbrev pub keys_of : Script → List ℕ
-keys_of s = keys_in s.keys s.count
-
--- the keys of a script that was read
-abbrev pub keys_read : Result Script RefusedText → Result (List ℕ) RefusedText
-keys_read (Ok script) = Ok (keys_of script)
-keys_read (Err why) = Err why
 
 -- what one more cue does to those read so far: a repeated cue is kept once; a 257th different cue meets 11
 abbrev pub by_key : List ℕ → ℕ → Result (List ℕ) Refusal

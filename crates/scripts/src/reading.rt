@@ -1,83 +1,87 @@
 // Script texts, read into a sorted table of keys.
-ghost use Rattle.std.specs.Prelude.{◌≡◌, [], ◌≤◌, length, take};
+ghost use Rattle.std.specs.Prelude.{◌≡◌, ℕ, List, [], ◌≤◌, length};
 ghost use Rattle.lines.specs.Lines.{lines_of};
 ghost use Rattle.cue_lines.specs.CueLine.{cue_line_of};
 ghost use Rattle.tables.specs.Table.{Ordered};
-ghost use Rattle.scripts.specs.Script.{keys_of, keys_read, by_key, by_line, read_from, script_of};
-ghost use Rattle.scripts.specs.Count.{taken, CountFits};
+ghost use Rattle.scripts.specs.Script.{by_key, by_line, read_from, script_of};
+ghost use Rattle.scripts.specs.Taken.{taken};
 
 use cue_lines::read_cue;
 use line_reader::LineReader;
-use ranks::{rank, stands_at};
 use refusals::{Refusal, RefusedText};
-use tables::insert_at;
+use sorted_keys::SortedKeys;
+use std::marker::Model;
 
-// The keys of the cues, strictly rising, in the first `count` words.
+// A set of at most 256 cues, each by its key. Clauses see the keys in their order.
 #[derive(Drop)]
 pub struct Script {
-    pub keys: [u64; 256],
-    pub count: usize,
+    keys: SortedKeys<256>,
 }
 
-pub fn empty_script() -> Script
-    ensures { keys_of result ≡ [] }
-{
-    Script {
-        keys: [0u64; 256],
-        count: 0,
+impl Model for Script {
+    ghost Value = { List ℕ };
+
+    ghost view = { λ s. s.keys };
+}
+
+impl Script {
+    // The script of no cues.
+    pub fn new() -> Self
+        ensures { result ≡ [] }
+    {
+        Script {
+            keys: SortedKeys::new(),
+        }
+    }
+
+    pub fn keys(&self) -> &[u64]
+        ensures value { result.now ≡ self.now }
+        ensures fits { length result.now ≤ 256 }
+        ensures in_order { Ordered 0 self.now }
+    {
+        self.keys.as_slice()
     }
 }
 
-// Puts a key into the table, unless it is there: how many keys it has then.
-fn take_key(keys: &mut [u64], count: usize, key: u64) -> Result<usize, Refusal>
-    requires { (count ≤ 256) × (length keys.old ≡ 256) × Ordered 1 (take count keys.old) }
-    ensures takes { taken result keys.new ≡ by_key (take count keys.old) key }
-    ensures fits { CountFits result }
+// Puts a key into the table, unless it is there.
+#[tactic(auto, using(crate::proofs::ReadLaws::key_rules))]
+fn take_key(keys: &mut SortedKeys<256>, key: u64) -> Result<(), Refusal>
+    ensures { taken result keys.new ≡ by_key keys.old key }
 {
-    let at = rank(keys, count, key);
-    if stands_at(keys, count, at, key) {
-        return Ok(count);
-    }
-    if count == 256 {
+    if keys.len() == 256 && !keys.contains(key) {
         return Err(Refusal::ScriptFull);
     }
-    insert_at(keys, count, at, key);
-    Ok(count + 1)
+    keys.insert_once(key);
+    Ok(())
 }
 
 // Puts the cue of a line into the table.
-fn take_line(keys: &mut [u64], count: usize, line: &[u8]) -> Result<usize, Refusal>
-    requires { (count ≤ 256) × (length keys.old ≡ 256) × Ordered 1 (take count keys.old) }
-    ensures takes { taken result keys.new ≡ by_line (take count keys.old) (cue_line_of line.now) }
-    ensures fits { CountFits result }
+fn take_line(keys: &mut SortedKeys<256>, line: &[u8]) -> Result<(), Refusal>
+    ensures { taken result keys.new ≡ by_line keys.old (cue_line_of line.now) }
 {
     let cue = read_cue(line)?;
-    take_key(keys, count, cue.key())
+    take_key(keys, cue.key())
 }
 
-// Puts the cues of all lines of a text into an empty table.
-fn take_lines(keys: &mut [u64], text: &[u8]) -> Result<usize, RefusedText>
-    requires { length keys.old ≡ 256 }
-    ensures takes { taken result keys.new ≡ read_from 1 [] (lines_of text.now) }
-    ensures fits { CountFits result }
+// Puts the cues of all lines of a text into the table.
+fn take_lines(keys: &mut SortedKeys<256>, text: &[u8]) -> Result<(), RefusedText>
+    ensures { taken result keys.new ≡ read_from 1 keys.old (lines_of text.now) }
 {
-    let mut count = 0;
     for (index, line) in LineReader::new(text).enumerate() {
         let number = index + 1;
-        match take_line(keys, count, line) {
-            Ok(more) => count = more,
-            Err(refusal) => return Err(RefusedText {
+        if let Err(refusal) = take_line(keys, line) {
+            return Err(RefusedText {
                 refusal,
                 line: number,
-            }),
+            });
         }
     }
-    Ok(count)
+    Ok(())
 }
 
 // The script of a text; or the first row that it meets, with the line.
 pub fn read_script(text: &[u8]) -> Result<Script, RefusedText>
-    ensures { keys_read result ≡ script_of text.now }
+    ensures { result ≡ script_of text.now }
 {
     if 65536 < text.len() {
         return Err(RefusedText {
@@ -85,7 +89,7 @@ pub fn read_script(text: &[u8]) -> Result<Script, RefusedText>
             line: 0,
         });
     }
-    let mut keys = [0u64; 256];
-    let count = take_lines(&mut keys, text)?;
-    Ok(Script { keys, count })
+    let mut keys = SortedKeys::new();
+    take_lines(&mut keys, text)?;
+    Ok(Script { keys })
 }

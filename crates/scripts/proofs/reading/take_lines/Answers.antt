@@ -1,11 +1,10 @@
-use Rattle.std.proofs.Common.{arith, length, take, sym, ap, inl, ℕ, ◌+◌, ◌∙◌, ◌≤◌, ◌≡◌}
+use Rattle.std.proofs.Common.{arith, length, sym, ap, inl, ℕ, ◌+◌, ◌∙◌, ◌≤◌, ◌≡◌}
 use Rattle.std.specs.Iterator.Adapters.{enumerate_source, enumerate_count}
 use Rattle.lines.specs.Lines.{lines_of}
 use Rattle.line_reader.specs.Reader.{lines_left}
 use Rattle.line_reader.proofs.Left.{lines_at_most}
-use Rattle.cue_lines.specs.CueLine.{cue_line_of}
 use Rattle.scripts.specs.Script.{refused_at, read_from}
-use Rattle.scripts.proofs.ReadLaws.{line_ordered, read_end, read_on_lem, read_refused}
+use Rattle.scripts.proofs.ReadLaws.{read_end, read_on_lem, read_refused}
 use Rattle.scripts.proofs.reading.take_lines.Goals as goal
 use Rattle.scripts.proofs.reading.take_lines.Goals.{After-into_iter-index-iterator}
 
@@ -32,9 +31,6 @@ pub loop-index-init : goal.loop-index-init
 loop-index-init c = record {
   goes = (tt, tt, inl (omega (arith, few_to_come c)));
   ends = tt;
-  fits = omega arith;
-  room = c.requires;
-  rising = tt;
   few = few_to_come c;
   so_far = rw (all_to_come c, from_none c);
 }
@@ -44,37 +40,33 @@ loop-index-preserved c =
     let i = c.loop-index.invariant in
     let s = c.in-Some.ensures.steps in
     let n = enumerate_count c.loop-index.index-iterator in
-    let t = take c.loop-index.count c.loop-index.keys in
-    let u = take c.in-Ok.more c.take_line.new.keys in
+    let t = c.loop-index.keys in
+    let u = c.take_line.new.keys in
     let ls = lines_left (enumerate_source c.next.new.self) in
     let few : enumerate_count c.next.new.self + length ls ≤ length c.args.text.now = omega (arith, ap length s.0, s.2, i.few) in
     record {
       goes = (tt, tt, inl (omega (arith, few)));
       ends = tt;
-      fits = c.in-Ok.ensures.fits;
-      room = omega (arith, i.room);
-      rising = line_ordered t u (cue_line_of c.in-Some.line.now) i.rising c.in-Ok.ensures.takes;
       few = few;
       so_far =
           ap (λ (k : ℕ). read_from (k + 1) u ls) s.2
-          ∙ (read_on_lem (n + 1) t u c.in-Some.line.now ls c.in-Ok.ensures.takes
+          ∙ (read_on_lem (n + 1) t u c.in-Some.line.now ls (rw c.in_default.is at c.take_line.ensures)
           ∙ (ap (read_from (n + 1) t) (sym s.0) ∙ i.so_far));
     }
 
-pub returns-in-Err-clause-takes : goal.returns-in-Err-clause-takes
-returns-in-Err-clause-takes c =
+pub returns-in-Err : goal.returns-in-Err
+returns-in-Err c =
     let i = c.loop-index.invariant in
     let s = c.in-Some.ensures.steps in
     let n = enumerate_count c.loop-index.index-iterator in
-    let t = take c.loop-index.count c.loop-index.keys in
+    let t = c.loop-index.keys in
     ap (λ (k : ℕ). refused_at (k + 1) c.in-Err.refusal) s.1
-    ∙ (read_refused (n + 1) t c.in-Some.line.now (lines_left (enumerate_source c.next.new.self)) c.in-Err.refusal c.in-Err.ensures.takes
+    ∙ (read_refused (n + 1) t c.in-Some.line.now (lines_left (enumerate_source c.next.new.self)) c.in-Err.refusal (rw c.in-Err.is at c.take_line.ensures)
     ∙ (ap (read_from (n + 1) t) (sym s.0) ∙ i.so_far))
 
-pub returns-clause-takes : goal.returns-clause-takes
-returns-clause-takes c =
+pub returns : goal.returns
+returns c =
     let i = c.loop-index.invariant in
     let s = c.in-None.ensures.steps in
     let n = enumerate_count c.loop-index.index-iterator in
-    let t = take c.loop-index.count c.loop-index.keys in
-    read_end (n + 1) t ∙ (ap (read_from (n + 1) t) (sym s.0.0) ∙ i.so_far)
+    read_end (n + 1) c.loop-index.keys ∙ (ap (read_from (n + 1) c.loop-index.keys) (sym s.0.0) ∙ i.so_far)
