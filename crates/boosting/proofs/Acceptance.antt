@@ -12,7 +12,6 @@ use Rattle.digits.specs.Digits.{digits_at}
 use Rattle.numbers.specs.Number.{value_from, number_of}
 use Rattle.cue_lines.specs.CueLine.{fields_of}
 use Rattle.tables.specs.Table.{member_of, insert_of, delete_of, put_once_of}
-use Rattle.same_bytes.specs.Same.{same}
 use Rattle.step_words.specs.Word.{word_of}
 use Rattle.answers.specs.declared.Answer.{Answer}
 use Rattle.answers.specs.declared.Answer.TheVariants.{Ok, Yes, No, Empty, Cue, Left, Refused}
@@ -186,7 +185,7 @@ term_3_at c p a s t = (
 -- all that a run, its recovery and its replay compute with
 computing : Unit {0}
 unfolding up_to onto lines_of digits_at value_from number_of fields_of member_of insert_of delete_of put_once_of read_from script_of
-    same word_of effect reply entry_of inverse lock_of no_locks hold conflicts closed_transaction open_transaction started
+    word_of effect reply entry_of inverse lock_of no_locks hold conflicts closed_transaction open_transaction started
     opened transaction put blocker reserved_by reserved_in takes_by takes_in first_met refusal_of accept perform step_on
     step_line advance run_from roll_backs recover_one recover rising replay replies calls_of feed fed answers_of heard_back
     heard lock_lines listing_from

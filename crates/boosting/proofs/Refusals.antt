@@ -24,7 +24,7 @@ use Rattle.refusals.specs.declared.Refusal.TheVariants.{
 use Rattle.refusals.specs.declared.Refusal.TheVariants.{Malformed as MalformedLine, Aborting as IsAborting}
 use Rattle.steps.specs.Step.{step_of}
 use Rattle.steps.specs.declared.reading.Step.{Step}
-use Rattle.steps.specs.declared.reading.Step.TheVariants.{WithNumber, WithCue, Malformed}
+use Rattle.steps.specs.declared.reading.Step.TheVariants.{WithNumber, WithCue}
 use Rattle.answers.specs.declared.Answer.TheVariants.{Refused}
 use Rattle.boosting.specs.Object.{reply}
 use Rattle.boosting.specs.Undo.{Entry, entry_of}
@@ -208,10 +208,10 @@ malformed_request d (Some q) h =
     let z : is_malformed (refusal_of d (Some q)) ≡ true = ap is_malformed h in
     absurd (mathlib.Core.Bool.true≢false (sym z ∙ well_formed d q.transaction q.action))
 
-malformed_step : (s : Step) → request_of s ≡ None → s ≡ Malformed
-malformed_step Malformed h = refl
-malformed_step (WithNumber w e) h = cc
-malformed_step (WithCue w e n) h = cc
+malformed_step : (s : Option Step) → request_of s ≡ None → s ≡ None
+malformed_step None h = refl
+malformed_step (Some (WithNumber w e)) h = cc
+malformed_step (Some (WithCue w e n)) h = cc
 
 -- row 1 is met exactly by a malformed line
 pub malformed_exactly : MalformedExactly
@@ -220,5 +220,5 @@ malformed_exactly d line =
     let q = request_of (step_of line) in
     let r = refused_exactly d q MalformedLine in (
       λ h. malformed_step (step_of line) (malformed_request d q (r.0 h)),
-      λ e. r.1 (ap (λ (s : Step). refusal_of d (request_of s)) e ∙ malformed_refused d),
+      λ e. r.1 (ap (λ (s : Option Step). refusal_of d (request_of s)) e ∙ malformed_refused d),
     )

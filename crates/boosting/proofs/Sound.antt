@@ -11,7 +11,7 @@ use Rattle.refusals.specs.declared.Refusal.{Refusal}
 use Rattle.cues.specs.Cue.{CueKey}
 use Rattle.cues.proofs.Theorems.{key_is_cue_key}
 use Rattle.steps.specs.declared.reading.Step.{Step}
-use Rattle.steps.specs.declared.reading.Step.TheVariants.{WithNumber, WithCue, Malformed}
+use Rattle.steps.specs.declared.reading.Step.TheVariants.{WithNumber, WithCue}
 use Rattle.step_words.specs.declared.NumberWord.{NumberWord}
 use Rattle.step_words.specs.declared.NumberWord.TheVariants.{Begin, Min, Take, Commit, Undo, Back}
 use Rattle.step_words.specs.declared.CueWord.{CueWord}
@@ -99,10 +99,10 @@ cue_call_key Remove k h = h
 cue_call_key Has k h = h
 cue_call_key Push k h = h
 
-pub request_key : (s : Step) → RequestKey (request_of s)
-request_key (WithNumber w e) = number_key w e
-request_key (WithCue w e n) = λ h. cue_call_key w _ (key_is_cue_key _ h)
-request_key Malformed = tt
+pub request_key : (s : Option Step) → RequestKey (request_of s)
+request_key (Some (WithNumber w e)) = number_key w e
+request_key (Some (WithCue w e n)) = λ h. cue_call_key w _ (key_is_cue_key _ h)
+request_key None = tt
 
 perform-Sound : (d : Store) (e : ℕ) (a : Action) → Sound d → RequestKey (request e a)
     → refusal_of d (request e a) ≡ None → Sound (perform d e a).store

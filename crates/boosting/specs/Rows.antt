@@ -18,7 +18,7 @@ use Rattle.refusals.specs.declared.Refusal.TheVariants.{Malformed as MalformedLi
 use Rattle.cues.specs.Cue.{in_range, key_of}
 use Rattle.cues.specs.declared.CueNumbers.{CueNumbers}
 use Rattle.steps.specs.declared.reading.Step.{Step}
-use Rattle.steps.specs.declared.reading.Step.TheVariants.{WithNumber, WithCue, Malformed}
+use Rattle.steps.specs.declared.reading.Step.TheVariants.{WithNumber, WithCue}
 use Rattle.step_words.specs.declared.NumberWord.{NumberWord}
 use Rattle.step_words.specs.declared.NumberWord.TheVariants.{Begin, Min, Take, Commit, Undo, Back}
 use Rattle.step_words.specs.declared.CueWord.{CueWord}
@@ -66,10 +66,11 @@ on_cue_of n c =
     call (in_range n.time n.«module» n.pin)
     (c (key_of (record { time = n.time; «module» = n.«module»; pin = n.pin })))
 
-abbrev pub request_of : Step → Option Request
-request_of (WithNumber w e) = request e (number_action w)
-request_of (WithCue w e n) = request e (on_cue_of n (cue_call w))
-request_of Malformed = None
+-- the request of a step; a line that is no step makes none
+abbrev pub request_of : Option Step → Option Request
+request_of (Some (WithNumber w e)) = request e (number_action w)
+request_of (Some (WithCue w e n)) = request e (on_cue_of n (cue_call w))
+request_of None = None
 
 abbrev pub is_closed : Standing → Bool
 is_closed closed = true

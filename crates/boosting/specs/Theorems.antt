@@ -5,7 +5,6 @@ use Rattle.refusals.specs.declared.Refusal.{Refusal}
 use Rattle.refusals.specs.declared.Refusal.TheVariants.{Blocked}
 use Rattle.refusals.specs.declared.Refusal.TheVariants.{Malformed as MalformedLine}
 use Rattle.steps.specs.Step.{step_of}
-use Rattle.steps.specs.declared.reading.Step.TheVariants.{Malformed}
 use Rattle.answers.specs.declared.Answer.{Answer}
 use Rattle.answers.specs.declared.Answer.TheVariants.{Ok, Left, Refused}
 use Rattle.tables.specs.Table.{Ordered, member_of, insert_of, delete_of, put_once_of}
@@ -82,7 +81,7 @@ RowsDecide =
 -- row 1 is met exactly by a malformed line
 abbrev pub MalformedExactly : Type 0
 MalformedExactly =
-    (d : Store) (line : List ℕ) → ((step_line d line).answer ≡ Refused MalformedLine) ↔ (step_of line ≡ Malformed)
+    (d : Store) (line : List ℕ) → ((step_line d line).answer ≡ Refused MalformedLine) ↔ (step_of line ≡ None)
 
 -- a step that meets no row is accepted, and no other is
 abbrev pub AcceptedExactly : Type 0

@@ -15,22 +15,19 @@ use Rattle.lines.proofs.Laws.{lt_or_ge, up_le, up_append}
 use Rattle.digits.specs.Digits.{digits_of}
 use Rattle.numbers.specs.Field.{field}
 use Rattle.numbers.specs.Number.{number_of}
-use Rattle.numbers.specs.declared.Number.{Number}
-use Rattle.numbers.specs.declared.Number.TheVariants.{Value}
-use Rattle.numbers.specs.declared.Number.TheVariants.{Malformed as NoNumber}
+use Rattle.std.specs.Prelude.{Option, Some, None, Result, Ok, Err}
 use Rattle.digits.proofs.Laws.{none_digits}
 use Rattle.numbers.proofs.Theorems.{write_then_read, read_is_canonical}
+use Rattle.refusals.specs.declared.Refusal.{Refusal}
 use Rattle.refusals.specs.declared.Refusal.TheVariants.{CueOutOfRange}
 use Rattle.cues.specs.declared.Cue.{Cue}
 use Rattle.cues.specs.Cue.{in_range, InRange}
 use Rattle.cues.proofs.Laws.{bounds}
 use Rattle.cue_texts.proofs.Theorems.{body_fields}
-use Rattle.cue_lines.specs.declared.Fields.{Fields}
-use Rattle.cue_lines.specs.declared.Fields.TheVariants.{Numbers, Malformed}
-use Rattle.cue_lines.specs.declared.CueLine.TheVariants.{InRange as Found, Refused}
-use Rattle.cue_lines.specs.CueLine.{others, three_numbers, fields_of, ranged, cue_line_of}
+use Rattle.cues.specs.declared.CueNumbers.{CueNumbers}
+use Rattle.cue_lines.specs.CueLine.{others, three_numbers, fields_of, cue_of_fields, cue_line_of}
 use Rattle.cue_lines.specs.Theorems.{CueWriteThenRead, CueReadIsCanonical}
-use Rattle.cue_lines.proofs.Laws.{no_comma, one_comma}
+use Rattle.cue_lines.proofs.Laws.{numbers_of, no_comma, one_comma}
 
 -- ---- written, then read
 field_of : (d r : List ℕ) → up_to 44 d ≡ length d → field (d ++ 44 ∷ r) ≡ d
@@ -40,7 +37,7 @@ others_of : (d r : List ℕ) → up_to 44 d ≡ length d → others (d ++ 44 ∷
 others_of d r e = rw (up_append 44 d r e) (drop-append-add d (44 ∷ r) 1)
 
 fields_read : (t m p : ℕ) → t < 1000000000 → m < 1000000000 → p < 1000000000
-    → fields_of (digits_of t ++ 44 ∷ (digits_of m ++ 44 ∷ digits_of p)) ≡ Numbers t m p
+    → fields_of (digits_of t ++ 44 ∷ (digits_of m ++ 44 ∷ digits_of p)) ≡ numbers_of t m p
 unfolding fields_of
 fields_read t m p ht hm hp =
     let R = digits_of m ++ 44 ∷ digits_of p in
@@ -48,11 +45,11 @@ fields_read t m p ht hm hp =
     let nt = none_digits 44 19 t (omega arith) in
     let nm = none_digits 44 19 m (omega arith) in
     let o : others L ≡ R = others_of (digits_of t) R nt in
-    let vt : number_of (field L) ≡ Value t = ap number_of (field_of (digits_of t) R nt) ∙ write_then_read t ht in
-    let vm : number_of (field (others L)) ≡ Value m =
+    let vt : number_of (field L) ≡ Some t = ap number_of (field_of (digits_of t) R nt) ∙ write_then_read t ht in
+    let vm : number_of (field (others L)) ≡ Some m =
     ap (λ (l : List ℕ). number_of (field l)) o
     ∙ (ap number_of (field_of (digits_of m) (digits_of p) nm) ∙ write_then_read m hm) in
-    let vp : number_of (others (others L)) ≡ Value p =
+    let vp : number_of (others (others L)) ≡ Some p =
     ap (λ (l : List ℕ). number_of (others l)) o
     ∙ (ap number_of (others_of (digits_of m) (digits_of p) nm) ∙ write_then_read p hp) in
     rw (vt, vm, vp)
@@ -61,7 +58,7 @@ pub cue_write_then_read : CueWriteThenRead
 cue_write_then_read c r =
     let b = bounds c.time c.«module» c.pin r in
     ap cue_line_of (body_fields c)
-    ∙ (ap ranged (fields_read c.time c.«module» c.pin (omega arith) (omega arith) (omega arith)) ∙ rw r)
+    ∙ (ap cue_of_fields (fields_read c.time c.«module» c.pin (omega arith) (omega arith) (omega arith)) ∙ rw r)
 
 -- ---- read, then written
 -- a line with a separator is what stands before it, the separator, and what stands behind it
@@ -78,23 +75,26 @@ split_at sep (b ∷ bs) h = by_test (eqb b sep) refl h (split_at sep bs)
     by_test true e g more = ap (λ (x : ℕ). x ∷ bs) (eqb-true b sep e)
     by_test false e g more = rw add-one (ap (λ (x : List ℕ). b ∷ x) (more (omega arith) ∙ rw add-one))
 
-three_values : (x y z : Number) (t m p : ℕ) → three_numbers x y z ≡ Numbers t m p
-    → (x ≡ Value t) × (y ≡ Value m) × (z ≡ Value p)
-three_values NoNumber y z t m p e = let w : ◌≡◌ {A = ℕ} 0 1 = cc in absurd (omega arith)
-three_values (Value a) NoNumber z t m p e = let w : ◌≡◌ {A = ℕ} 0 1 = cc in absurd (omega arith)
-three_values (Value a) (Value b) NoNumber t m p e = let w : ◌≡◌ {A = ℕ} 0 1 = cc in absurd (omega arith)
-three_values (Value a) (Value b) (Value c) t m p e = ((cc), (cc), (cc))
+three_values : (x y z : Option ℕ) (t m p : ℕ) → three_numbers x y z ≡ numbers_of t m p
+    → (x ≡ Some t) × (y ≡ Some m) × (z ≡ Some p)
+three_values None y z t m p e = let w : ◌≡◌ {A = ℕ} 0 1 = cc in absurd (omega arith)
+three_values (Some a) None z t m p e = let w : ◌≡◌ {A = ℕ} 0 1 = cc in absurd (omega arith)
+three_values (Some a) (Some b) None t m p e = let w : ◌≡◌ {A = ℕ} 0 1 = cc in absurd (omega arith)
+three_values (Some a) (Some b) (Some c) t m p e =
+    let n : CueNumbers = record { time = a; «module» = b; pin = c } in
+    let f : n ≡ record { time = t; «module» = m; pin = p } = cc in
+    (ap (λ (x : CueNumbers). Some x.time) f, ap (λ (x : CueNumbers). Some x.«module») f, ap (λ (x : CueNumbers). Some x.pin) f)
 
 -- where numbers are read, there is a comma in the line, and another behind it
-has_comma : (l : List ℕ) (t m p : ℕ) (s : List ℕ) → (up_to 44 s ≡ length s → fields_of l ≡ Malformed)
-    → fields_of l ≡ Numbers t m p → up_to 44 s < length s
+has_comma : (l : List ℕ) (t m p : ℕ) (s : List ℕ) → (up_to 44 s ≡ length s → fields_of l ≡ None)
+    → fields_of l ≡ numbers_of t m p → up_to 44 s < length s
 has_comma l t m p s none e =
     ⊎_elim (λ h. h) (λ h. absurd (without (none (omega (arith, up_le 44 s))))) (lt_or_ge (up_to 44 s) (length s))
   where
-    without : fields_of l ≡ Malformed → ⊥
+    without : fields_of l ≡ None → ⊥
     without f = let w : ◌≡◌ {A = ℕ} 0 1 = cc in omega arith
 
-fields_canonical : (l : List ℕ) (t m p : ℕ) → fields_of l ≡ Numbers t m p
+fields_canonical : (l : List ℕ) (t m p : ℕ) → fields_of l ≡ numbers_of t m p
     → l ≡ digits_of t ++ 44 ∷ (digits_of m ++ 44 ∷ digits_of p)
 unfolding fields_of
 fields_canonical l t m p e =
@@ -106,23 +106,23 @@ fields_canonical l t m p e =
     let dp = (read_is_canonical (others (others l)) p v.2).0 in
     cc
 
-ranged-Found : (f : Fields) (c : Cue) → ranged f ≡ Found c
-    → (f ≡ Numbers c.time c.«module» c.pin) × InRange c
-ranged-Found Malformed c e = let w : ◌≡◌ {A = ℕ} 0 1 = cc in absurd (omega arith)
-ranged-Found (Numbers t m p) c e = by_test (in_range t m p) refl e
+ranged-Ok : (f : Option CueNumbers) (c : Cue) → cue_of_fields f ≡ Ok c
+    → (f ≡ numbers_of c.time c.«module» c.pin) × InRange c
+ranged-Ok None c e = let w : ◌≡◌ {A = ℕ} 0 1 = cc in absurd (omega arith)
+ranged-Ok (Some n) c e = by_test (in_range n.time n.«module» n.pin) refl e
   where
-    by_test : (b : Bool) → in_range t m p ≡ b
-        → cond b (Found (record { time = t; «module» = m; pin = p })) (Refused CueOutOfRange) ≡ Found c
-        → (Numbers t m p ≡ Numbers c.time c.«module» c.pin) × InRange c
+    by_test : (b : Bool) → in_range n.time n.«module» n.pin ≡ b
+        → cond {A = Result Cue Refusal} b (Ok (record { time = n.time; «module» = n.«module»; pin = n.pin })) (Err CueOutOfRange) ≡ Ok c
+        → (Some n ≡ numbers_of c.time c.«module» c.pin) × InRange c
     by_test true r g =
-        let d : Cue = record { time = t; «module» = m; pin = p } in
+        let d : Cue = record { time = n.time; «module» = n.«module»; pin = n.pin } in
         let q : d ≡ c = cc in (
-          ap (λ (x : Cue). Numbers x.time x.«module» x.pin) q,
+          ap (λ (x : Cue). numbers_of x.time x.«module» x.pin) q,
           ap (λ (x : Cue). in_range x.time x.«module» x.pin) (sym q) ∙ r,
         )
     by_test false r g = let w : ◌≡◌ {A = ℕ} 0 1 = cc in absurd (omega arith)
 
 pub cue_read_is_canonical : CueReadIsCanonical
 cue_read_is_canonical l c e =
-    let f = ranged-Found (fields_of l) c e in
+    let f = ranged-Ok (fields_of l) c e in
     (fields_canonical l c.time c.«module» c.pin f.0 ∙ sym (body_fields c), f.1)

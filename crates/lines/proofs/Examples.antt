@@ -4,9 +4,9 @@ use mathlib.Core.Path.{◌≡◌, refl}
 use mathlib.Core.List.{List, [], ◌∷◌}
 use Prim.Native.Nat.{ℕ}
 use Rattle.lines.specs.Lines.{up_to, onto, lines_of}
+use Rattle.std.specs.Prelude.{Some, None}
 use Rattle.lines.specs.Line.{line_at}
 use Rattle.lines.specs.Theorems.{joined, read_from}
-use Rattle.lines.specs.declared.Line.TheVariants.{At, End}
 
 -- ---- the lines of a text
 empty_text : lines_of [] ≡ []
@@ -49,20 +49,20 @@ unfolding joined lines_of onto
 closed_gaps = refl
 
 -- ---- the line at a place: the first, an empty one, the last with no LF, and none from the end on
-first_of_gaps : line_at gaps 0 ≡ At 0 1 2
+first_of_gaps : line_at gaps 0 ≡ Some (record { start = 0; end = 1; next = 2 })
 unfolding up_to
 first_of_gaps = refl
 
-empty_of_gaps : line_at gaps 2 ≡ At 2 2 3
+empty_of_gaps : line_at gaps 2 ≡ Some (record { start = 2; end = 2; next = 3 })
 unfolding up_to
 empty_of_gaps = refl
 
-last_of_gaps : line_at gaps 4 ≡ At 4 6 7
+last_of_gaps : line_at gaps 4 ≡ Some (record { start = 4; end = 6; next = 7 })
 unfolding up_to
 last_of_gaps = refl
 
-none_at_end : line_at gaps 6 ≡ End
+none_at_end : line_at gaps 6 ≡ None
 none_at_end = refl
 
-none_past_end : line_at gaps 7 ≡ End
+none_past_end : line_at gaps 7 ≡ None
 none_past_end = refl

@@ -5,6 +5,7 @@ use mathlib.Core.Bool.{Bool, true, false, cond}
 use mathlib.Core.List.Memᴰ
 use mathlib.Core.List.{List, [], ◌∷◌, Memᴰ}
 use mathlib.Core.Logic.{⊎_elim}
+use Rattle.std.specs.Prelude.{Option, Some}
 use Prim.Native.Nat.{ℕ, zero, suc, ◌+◌, ◌-◌, ◌≤◌}
 use native.Mathlib.Nat.{add-sub_cancel_left}
 use native.Mathlib.Omega.{arith}
@@ -77,9 +78,9 @@ read_all s (suc n) at h =
     ⊎_elim
     (λ i.
     let u = up_to 10 (drop at s) in
-    let line : line_at s at ≡ line_to at (at + u) = rw (lt-ltb at (length s) i) in
+    let line : line_at s at ≡ Some (line_to at (at + u)) = rw (lt-ltb at (length s) i) in
     let bytes : take (at + u - at) (drop at s) ≡ take u (drop at s) = rw (add-sub_cancel_left at u) in
-    ap (λ (l : Line). read_on s l (read_from n s)) line
+    ap (λ (l : Option Line). read_on s l (read_from n s)) line
     ∙ (ap (λ (l : List ℕ). l ∷ read_from n s (at + u + 1)) bytes
     ∙ (ap (λ (ls : List (List ℕ)). take u (drop at s) ∷ ls) (read_all s n (at + u + 1) (omega arith))
     ∙ sym (lines_next s at i))))

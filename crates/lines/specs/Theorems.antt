@@ -1,12 +1,11 @@
 -- What is proved of these definitions, beside the functions' contracts: that `lines_of` is what a reader means by the
 -- lines of a text, and that `line_at` reads them. `proofs/Theorems.antt` has the proofs.
 -- Assumes nothing.
-use Rattle.std.specs.Prelude.{ℕ, zero, suc, ◌-◌, ◌≤◌, if◌then◌else◌, ◌≡◌, nat_eq, length, take, drop}
+use Rattle.std.specs.Prelude.{ℕ, zero, suc, ◌-◌, ◌≤◌, if◌then◌else◌, ◌≡◌, nat_eq, length, take, drop, Option, Some, None}
 use mathlib.Core.List.{List, [], ◌∷◌, ◌++◌, Memᴰ}
 use Rattle.lines.specs.Lines.{lines_of}
 use Rattle.lines.specs.Line.{line_at}
 use Rattle.lines.specs.declared.Line.{Line}
-use Rattle.lines.specs.declared.Line.TheVariants.{At, End}
 
 -- ---- the lines are the text, cut at each LF
 -- each line with its LF behind it
@@ -30,9 +29,9 @@ LinesWithoutLF = (s l : List ℕ) → Memᴰ l (lines_of s) → Memᴰ 10 l → 
 
 -- ---- reading line after line finds them all
 -- the bytes of the line that was read, in front of those found from the next place on; none at the end
-abbrev pub read_on : List ℕ → Line → (ℕ → List (List ℕ)) → List (List ℕ)
-read_on s (At start end next) from = take (end - start) (drop start s) ∷ from next
-read_on s End from = []
+abbrev pub read_on : List ℕ → Option Line → (ℕ → List (List ℕ)) → List (List ℕ)
+read_on s (Some line) from = take (line.end - line.start) (drop line.start s) ∷ from line.next
+read_on s None from = []
 
 -- the lines that `line_at` finds from a place on until there is none, in at most so many reads
 unfoldable pub read_from : ℕ → List ℕ → ℕ → List (List ℕ)

@@ -13,17 +13,12 @@ ghost use Rattle.lines.specs.Line.{line_at};
 // What ends a line.
 pub const LF: u8 = 10;
 
-// What reading a line at a place finds.
-#[derive(Clone, Copy)]
-pub enum Line {
-    // A line from start to end, where its LF is or the text ends; next is the place behind that.
-    At {
-        start: usize,
-        end: usize,
-        next: usize,
-    },
-    // No line: the place is at or past the end of the text.
-    End,
+// A line from start to end, where its LF is or the text ends; next is the place behind that.
+#[derive(Clone, Copy, Debug, PartialEq, Eq)]
+pub struct Line {
+    pub start: usize,
+    pub end: usize,
+    pub next: usize,
 }
 
 // The place of the first sep at or after a place; the text's length where there is none, and the place itself where
@@ -31,28 +26,25 @@ pub enum Line {
 pub fn find_byte(s: &[u8], at: usize, sep: u8) -> usize
     ensures { (result ≡ at + up_to sep (drop at s.now)) × (result ≤ max at (length s.now)) }
 {
-    let mut i = at;
-    while i < s.len() {
+    for i in at..s.len() {
         if s[i] == sep {
             return i;
         }
-        i += 1;
     }
-    i
+    at.max(s.len())
 }
 
-// The line that starts at a place of the text.
-pub fn next_line(text: &[u8], at: usize) -> Line
+// The line that starts at a place of the text; none at or past its end.
+pub fn next_line(text: &[u8], at: usize) -> Option<Line>
     ensures { result ≡ line_at text.now at }
 {
-    if at < text.len() {
-        let end = find_byte(text, at, LF);
-        Line::At {
-            start: at,
-            end: end,
-            next: end + 1,
-        }
-    } else {
-        Line::End
+    if at >= text.len() {
+        return None;
     }
+    let end = find_byte(text, at, LF);
+    Some(Line {
+        start: at,
+        end,
+        next: end + 1,
+    })
 }

@@ -12,16 +12,16 @@ use lib.Seq.{drop-cons, get_or-drop, take-length}
 use borrow.Author.Tests.{lt-ltb, le-ltb, eq-eqb, ltb-false, eqb-true}
 use Rattle.lines.specs.Lines.{up_to}
 use Rattle.lines.proofs.Laws.{lt_or_ge, up_le}
-use Rattle.numbers.specs.declared.Number.{Number}
-use Rattle.numbers.specs.declared.Number.TheVariants.{Value}
-use Rattle.numbers.specs.declared.Number.TheVariants.{Malformed as NoNumber}
+use Rattle.std.specs.Prelude.{Option, Some, None}
 use Rattle.numbers.specs.declared.Field.{Field}
-use Rattle.numbers.specs.declared.Field.TheVariants.{Malformed}
-use Rattle.numbers.specs.declared.Field.TheVariants.{Number as NumberTo}
 use Rattle.numbers.specs.Number.{value_from, number_of}
 use Rattle.numbers.specs.Field.{field, leading, ending_at, field_at, leading_at, DigitsTo, DigitsPassed, FieldFits}
 use Rattle.numbers.proofs.Laws.{ten_more, ten_le, value_more, value_end}
 use Rattle.numbers.proofs.Laws.{number_good, number_empty, number_long, number_zero, number_bad}
+
+-- a number that ends at a place, as a field
+abbrev pub number_to : ℕ → ℕ → Option Field
+number_to n end = Some (record { value = n; end = end })
 
 -- ---- from a place of a text on: a byte that is no digit, a digit, the end
 pub lead_low : (s : List ℕ) (i : ℕ) → i < length s → get_or s i 0 < 48 → leading (drop i s) ≡ []
@@ -76,7 +76,7 @@ lead_take (b ∷ bs) = by_tests (ltb b 48) (ltb 57 b) (lead_take bs)
     by_tests false false e = ap (λ (x : List ℕ). b ∷ x) e
 
 -- more of the text than its digits has no value
-value_past : (l : List ℕ) (n k : ℕ) → length (leading l) < k → k ≤ length l → value_from n (take k l) ≡ NoNumber
+value_past : (l : List ℕ) (n k : ℕ) → length (leading l) < k → k ≤ length l → value_from n (take k l) ≡ None
 unfolding leading value_from
 value_past l n zero h m = absurd (omega arith)
 value_past [] n (suc k) h m = absurd (omega arith)
@@ -84,22 +84,22 @@ value_past (b ∷ bs) n (suc k) h m =
     by_tests (ltb b 48) (ltb 57 b) (λ g. value_past bs (n * 10 + (b - 48)) k g (omega arith)) h
   where
     by_tests : (p q : Bool)
-        → (length (leading bs) < k → value_from (n * 10 + (b - 48)) (take k bs) ≡ NoNumber)
+        → (length (leading bs) < k → value_from (n * 10 + (b - 48)) (take k bs) ≡ None)
         → length (cond p [] (cond q [] (b ∷ leading bs))) < suc k
-        → cond p NoNumber (cond q NoNumber (value_from (n * 10 + (b - 48)) (take k bs))) ≡ NoNumber
+        → cond p None (cond q None (value_from (n * 10 + (b - 48)) (take k bs))) ≡ None
     by_tests true q f g = refl
     by_tests false true f g = refl
     by_tests false false f g = f (omega arith)
 
 -- ---- the digits beside what is to be a number: the first k bytes of a text
-pub number_past : (l : List ℕ) (k : ℕ) → length (leading l) < k → k ≤ length l → number_of (take k l) ≡ NoNumber
+pub number_past : (l : List ℕ) (k : ℕ) → length (leading l) < k → k ≤ length l → number_of (take k l) ≡ None
 number_past l k h m = number_bad (take k l) (value_past l 0 k h m)
 
 pub number_same : (l : List ℕ) (k : ℕ) → length (leading l) ≡ k → number_of (take k l) ≡ number_of (leading l)
 number_same l k e = ap number_of (ap (λ (n : ℕ). take n l) (sym e) ∙ lead_take l)
 
-pub number_none : (l : List ℕ) (k : ℕ) → length (leading l) ≤ k → k ≤ length l → number_of (leading l) ≡ NoNumber
-    → number_of (take k l) ≡ NoNumber
+pub number_none : (l : List ℕ) (k : ℕ) → length (leading l) ≤ k → k ≤ length l → number_of (leading l) ≡ None
+    → number_of (take k l) ≡ None
 number_none l k h m e =
     ⊎_elim
     (λ g. number_past l k g m)
@@ -112,27 +112,27 @@ lead_byte s at h =
     let e : at + 0 ≡ at = omega arith in
     lead_first (drop at s) h ∙ (get_or-drop at s 0 0 ∙ ap (λ (i : ℕ). get_or s i 0) e)
 
-no_leading : (s : List ℕ) (at : ℕ) → number_of (leading (drop at s)) ≡ NoNumber → Malformed ≡ leading_at s at
+no_leading : (s : List ℕ) (at : ℕ) → number_of (leading (drop at s)) ≡ None → None ≡ leading_at s at
 unfolding leading_at
 no_leading s at e = sym (ap (ending_at (at + length (leading (drop at s)))) e)
 
 -- what passing them told, by its result
-pub many_passed : (s : List ℕ) (at : ℕ) (r : Field) → DigitsPassed s at r → r ≡ Malformed → Malformed ≡ leading_at s at
+pub many_passed : (s : List ℕ) (at : ℕ) (r : Option Field) → DigitsPassed s at r → r ≡ None → None ≡ leading_at s at
 many_passed s at r d e =
     let h : 9 < length (leading (drop at s)) = rw e at d in
     no_leading s at (number_long _ h)
 
-pub digits_passed : (s : List ℕ) (at end n : ℕ) (r : Field) → DigitsPassed s at r → r ≡ NumberTo n end
+pub digits_passed : (s : List ℕ) (at end n : ℕ) (r : Option Field) → DigitsPassed s at r → r ≡ number_to n end
     → DigitsTo s at end n
 digits_passed s at end n r d e = rw e at d
 
-pub digits_none : (s : List ℕ) (at end n : ℕ) → DigitsTo s at end n → end ≡ at → Malformed ≡ leading_at s at
+pub digits_none : (s : List ℕ) (at end n : ℕ) → DigitsTo s at end n → end ≡ at → None ≡ leading_at s at
 digits_none s at end n d e =
     let z : length (leading (drop at s)) ≡ 0 = omega arith in
     no_leading s at (number_empty _ z)
 
 pub digits_zero : (s : List ℕ) (at end n : ℕ) → DigitsTo s at end n → (end ≡ at → ⊥) → (end - at ≡ 1 → ⊥)
-    → get_or s at 0 ≡ 48 → Malformed ≡ leading_at s at
+    → get_or s at 0 ≡ 48 → None ≡ leading_at s at
 digits_zero s at end n d f g e =
     let h : 0 < length (leading (drop at s)) = omega arith in
     no_leading s at (number_zero _ (λ o. g (omega arith)) (lead_byte s at h ∙ e))
@@ -142,13 +142,13 @@ digits_within s at end n d f = omega (arith, lead_le (drop at s), length-drop at
 
 pub digits_good : (s : List ℕ) (at end n : ℕ) → DigitsTo s at end n → (end ≡ at → ⊥)
     → ((end - at ≡ 1 → ⊥) → get_or s at 0 ≡ 48 → ⊥)
-    → (NumberTo n end ≡ leading_at s at) × ((end ≤ length s) × (n < 1000000000))
+    → (number_to n end ≡ leading_at s at) × ((end ≤ length s) × (n < 1000000000))
 unfolding leading_at
 digits_good s at end n d f g =
     let h : 0 < length (leading (drop at s)) = omega arith in
     let m : length (leading (drop at s)) ≤ 9 = omega arith in
     let e = number_good (leading (drop at s)) h m (λ o b. g (λ z. o (omega arith)) (sym (lead_byte s at h) ∙ b)) in (
-      sym (ap (ending_at (at + length (leading (drop at s)))) (e ∙ d.value) ∙ ap (NumberTo n) d.ends),
+      sym (ap (ending_at (at + length (leading (drop at s)))) (e ∙ d.value) ∙ ap (number_to n) d.ends),
       (digits_within s at end n d f, d.fits),
     )
 
@@ -166,21 +166,22 @@ passed_none s at =
     let z : at - at ≡ 0 = omega arith in
     record { from = omega arith; few = omega arith; fits = rw z (omega arith); ends = refl; value = refl }
 
-pub Passed-more : (s : List ℕ) (at i n b : ℕ) → Passed s at i n → i < length s → b ≡ get_or s i 0 → 48 ≤ b → b ≤ 57
-    → (i - at ≡ 9 → ⊥) → Passed s at (i + 1) (n * 10 + (b - 48))
-Passed-more s at i n b p h e l g f =
-    let m = lead_more s i h (rw e at l) (rw e at g) in
+pub Passed-more : (s : List ℕ) (at i n d : ℕ) → Passed s at i n → i < length s → 48 ≤ get_or s i 0 → get_or s i 0 ≤ 57
+    → d ≡ get_or s i 0 - 48 → (i - at ≡ 9 → ⊥) → Passed s at (i + 1) (n * 10 + d)
+Passed-more s at i n d p h l g e f =
+    let b = get_or s i 0 in
+    let m = lead_more s i h l g in
     let k : length (leading (drop i s)) ≡ length (leading (drop (i + 1) s)) + 1 = ap length m ∙ sym (add-one _) in
     let j : i + 1 - at ≡ i - at + 1 = omega (arith, p.from) in
     let t = ten_more (i - at) in
     record {
       from = omega (arith, p.from);
       few = omega (arith, p.few, p.from);
-      fits = rw j (omega (arith, p.fits));
+      fits = rw j (omega (arith, p.fits, e));
       ends = omega (arith, p.ends);
       value =
-          sym (value_more b (leading (drop (i + 1) s)) n l g)
-          ∙ (ap (λ (x : ℕ). value_from n (x ∷ leading (drop (i + 1) s))) e
+          ap (λ (x : ℕ). value_from (n * 10 + x) (leading (drop (i + 1) s))) e
+          ∙ (sym (value_more b (leading (drop (i + 1) s)) n l g)
           ∙ (ap (value_from n) (sym m) ∙ p.value));
     }
 
@@ -194,6 +195,9 @@ Passed-all s at i n p e =
       value = sym p.value ∙ value_end _ n e;
       fits = omega (arith, p.fits);
     }
+
+pub Passed-end : (s : List ℕ) (at i end n : ℕ) → Passed s at i n → length s ≤ i → end ≡ i → DigitsTo s at end n
+Passed-end s at i end n p h e = rw e (Passed-all s at i n p (lead_end s i h))
 
 -- a tenth digit
 pub Passed-many : (s : List ℕ) (at i n : ℕ) → Passed s at i n → i < length s → 48 ≤ get_or s i 0 → get_or s i 0 ≤ 57
@@ -240,46 +244,50 @@ lead_up (b ∷ bs) = by_tests (ltb b 48) (ltb 57 b) (eqb b 44) refl refl (lead_u
     by_tests false false false ep er h = omega arith
 
 -- ---- the field at a place, from the number of the digits there
-ending_none : (end : ℕ) (x : Number) → ending_at end x ≡ Malformed → x ≡ NoNumber
-ending_none end (Value n) e = cc
-ending_none end NoNumber e = refl
+ending_none : (end : ℕ) (x : Option ℕ) → ending_at end x ≡ None → x ≡ None
+ending_none end (Some n) e = cc
+ending_none end None e = refl
 
-ending_place : (place end n : ℕ) (x : Number) → ending_at place x ≡ NumberTo n end → place ≡ end
-ending_place place end n (Value m) e = cc
-ending_place place end n NoNumber e = cc
+ending_place : (place end n : ℕ) (x : Option ℕ) → ending_at place x ≡ number_to n end → place ≡ end
+ending_place place end n (Some m) e =
+    let f : ◌≡◌ {A = Field} (record { value = m; end = place }) (record { value = n; end = end }) = cc in
+    ap (λ (x : Field). x.end) f
+ending_place place end n None e = cc
 
-ending_value : (place end n : ℕ) (x : Number) → ending_at place x ≡ NumberTo n end → x ≡ Value n
-ending_value place end n (Value m) e = cc
-ending_value place end n NoNumber e = cc
+ending_value : (place end n : ℕ) (x : Option ℕ) → ending_at place x ≡ number_to n end → x ≡ Some n
+ending_value place end n (Some m) e =
+    let f : ◌≡◌ {A = Field} (record { value = m; end = place }) (record { value = n; end = end }) = cc in
+    ap (λ (x : Field). Some x.value) f
+ending_value place end n None e = cc
 
-none_leads : (s : List ℕ) (at : ℕ) → leading_at s at ≡ Malformed → number_of (leading (drop at s)) ≡ NoNumber
+none_leads : (s : List ℕ) (at : ℕ) → leading_at s at ≡ None → number_of (leading (drop at s)) ≡ None
 unfolding leading_at
 none_leads s at e = ending_none _ _ e
 
-leads_to : (s : List ℕ) (at n end : ℕ) → leading_at s at ≡ NumberTo n end
-    → (at + length (leading (drop at s)) ≡ end) × (number_of (leading (drop at s)) ≡ Value n)
+leads_to : (s : List ℕ) (at n end : ℕ) → leading_at s at ≡ number_to n end
+    → (at + length (leading (drop at s)) ≡ end) × (number_of (leading (drop at s)) ≡ Some n)
 unfolding leading_at
 leads_to s at n end e =
     let x = number_of (leading (drop at s)) in
     let p = at + length (leading (drop at s)) in
     (ending_place p end n x e, ending_value p end n x e)
 
-field_same : (s : List ℕ) (at n end : ℕ) → leading_at s at ≡ NumberTo n end
-    → length (leading (drop at s)) ≡ up_to 44 (drop at s) → NumberTo n end ≡ field_at s at
+field_same : (s : List ℕ) (at n end : ℕ) → leading_at s at ≡ number_to n end
+    → length (leading (drop at s)) ≡ up_to 44 (drop at s) → number_to n end ≡ field_at s at
 unfolding field_at
 field_same s at n end q e =
     let t = leads_to s at n end q in
     let p : at + up_to 44 (drop at s) ≡ end = omega arith in
-    sym (ap (ending_at (at + up_to 44 (drop at s))) (number_same (drop at s) _ e ∙ t.1) ∙ ap (NumberTo n) p)
+    sym (ap (ending_at (at + up_to 44 (drop at s))) (number_same (drop at s) _ e ∙ t.1) ∙ ap (number_to n) p)
 
-pub field_none : (s : List ℕ) (at : ℕ) → leading_at s at ≡ Malformed → Malformed ≡ field_at s at
+pub field_none : (s : List ℕ) (at : ℕ) → leading_at s at ≡ None → None ≡ field_at s at
 unfolding field_at
 field_none s at q =
     let l = drop at s in
     sym (ap (ending_at (at + up_to 44 l)) (number_none l (up_to 44 l) (lead_up l) (up_le 44 l) (none_leads s at q)))
 
-pub field_end : (s : List ℕ) (at n end : ℕ) → leading_at s at ≡ NumberTo n end → end ≡ length s
-    → NumberTo n end ≡ field_at s at
+pub field_end : (s : List ℕ) (at n end : ℕ) → leading_at s at ≡ number_to n end → end ≡ length s
+    → number_to n end ≡ field_at s at
 field_end s at n end q e =
     let t = leads_to s at n end q in
     let l = drop at s in
@@ -299,13 +307,13 @@ not_there l k f =
     (lt_or_ge (length (leading l)) (up_to 44 l))
 
 -- the byte behind the digits
-behind : (s : List ℕ) (at n end : ℕ) → leading_at s at ≡ NumberTo n end
+behind : (s : List ℕ) (at n end : ℕ) → leading_at s at ≡ number_to n end
     → get_or (drop at s) (length (leading (drop at s))) 0 ≡ get_or s end 0
 behind s at n end q =
     get_or-drop at s (length (leading (drop at s))) 0 ∙ ap (λ (i : ℕ). get_or s i 0) (leads_to s at n end q).0
 
-pub field_comma : (s : List ℕ) (at n end : ℕ) → leading_at s at ≡ NumberTo n end → end < length s
-    → get_or s end 0 ≡ 44 → NumberTo n end ≡ field_at s at
+pub field_comma : (s : List ℕ) (at n end : ℕ) → leading_at s at ≡ number_to n end → end < length s
+    → get_or s end 0 ≡ 44 → number_to n end ≡ field_at s at
 field_comma s at n end q h e =
     let t = leads_to s at n end q in
     let l = drop at s in
@@ -314,8 +322,8 @@ field_comma s at n end q h e =
     let z : length (leading l) ≡ up_to 44 l = omega (arith, lead_up l) in
     field_same s at n end q z
 
-pub field_broken : (s : List ℕ) (at n end : ℕ) → leading_at s at ≡ NumberTo n end → end < length s
-    → (get_or s end 0 ≡ 44 → ⊥) → Malformed ≡ field_at s at
+pub field_broken : (s : List ℕ) (at n end : ℕ) → leading_at s at ≡ number_to n end → end < length s
+    → (get_or s end 0 ≡ 44 → ⊥) → None ≡ field_at s at
 unfolding field_at
 field_broken s at n end q h f =
     let t = leads_to s at n end q in
@@ -326,38 +334,38 @@ field_broken s at n end q h f =
     sym (ap (ending_at (at + up_to 44 l)) (number_past l (up_to 44 l) p (up_le 44 l)))
 
 -- ---- the whole of a text as one number
-pub whole_none : (s : List ℕ) → leading_at s 0 ≡ Malformed → NoNumber ≡ number_of s
+pub whole_none : (s : List ℕ) → leading_at s 0 ≡ None → None ≡ number_of s
 whole_none s q =
     let h : length s ≤ length s = omega arith in
     sym (ap number_of (sym (take-length s)) ∙ number_none s (length s) (lead_le s) h (none_leads s 0 q))
 
-pub whole_past : (s : List ℕ) (n end : ℕ) → leading_at s 0 ≡ NumberTo n end → end ≤ length s → (end ≡ length s → ⊥)
-    → NoNumber ≡ number_of s
+pub whole_past : (s : List ℕ) (n end : ℕ) → leading_at s 0 ≡ number_to n end → end ≤ length s → (end ≡ length s → ⊥)
+    → None ≡ number_of s
 whole_past s n end q m f =
     let t = (leads_to s 0 n end q).0 in
     let h : length s ≤ length s = omega arith in
     let k : length (leading s) < length s = omega arith in
     sym (ap number_of (sym (take-length s)) ∙ number_past s (length s) k h)
 
-pub whole : (s : List ℕ) (n end : ℕ) → leading_at s 0 ≡ NumberTo n end → end ≡ length s → Value n ≡ number_of s
+pub whole : (s : List ℕ) (n end : ℕ) → leading_at s 0 ≡ number_to n end → end ≡ length s → Some n ≡ number_of s
 whole s n end q e =
     let t = (leads_to s 0 n end q).0 in
     let k : length (leading s) ≡ length s = omega arith in
     sym (ap number_of (sym (take-length s)) ∙ (number_same s (length s) k ∙ (leads_to s 0 n end q).1))
 
 -- ---- what is known of a field that was read
-pub no_field : (s : List ℕ) (at : ℕ) → field_at s at ≡ Malformed → number_of (field (drop at s)) ≡ NoNumber
+pub no_field : (s : List ℕ) (at : ℕ) → field_at s at ≡ None → number_of (field (drop at s)) ≡ None
 unfolding field_at
 no_field s at e = ending_none _ _ e
 
-pub field_read : (s : List ℕ) (at n end : ℕ) → field_at s at ≡ NumberTo n end
-    → (at + up_to 44 (drop at s) ≡ end) × (number_of (field (drop at s)) ≡ Value n)
+pub field_read : (s : List ℕ) (at n end : ℕ) → field_at s at ≡ number_to n end
+    → (at + up_to 44 (drop at s) ≡ end) × (number_of (field (drop at s)) ≡ Some n)
 unfolding field_at
 field_read s at n end e =
     let x = number_of (field (drop at s)) in
     let p = at + up_to 44 (drop at s) in
     (ending_place p end n x e, ending_value p end n x e)
 
-pub field_fits : (size n end : ℕ) (r : Field) → r ≡ NumberTo n end → FieldFits size r
+pub field_fits : (size n end : ℕ) (r : Option Field) → r ≡ number_to n end → FieldFits size r
     → (end ≤ size) × (n < 1000000000)
 field_fits size n end r e f = rw e at f

@@ -9,7 +9,7 @@ use native.Mathlib.Omega.{arith}
 use lib.Dec.{eqb, lit<}
 use lib.ListN.{length, get_or}
 use borrow.Author.Tests.{lt-ltb, le-ltb, eq-eqb, ne_eqb, eqb-true, eqb-false}
-use Rattle.numbers.specs.declared.Number.TheVariants.{Value, Malformed}
+use Rattle.std.specs.Prelude.{Option, Some, None}
 use Rattle.numbers.specs.Number.{value_from, number_of}
 
 -- ---- powers of ten
@@ -25,7 +25,7 @@ pub value_more : (b : ℕ) (bs : List ℕ) (n : ℕ) → 48 ≤ b → b ≤ 57
 unfolding value_from
 value_more b bs n l g = simp (le-ltb _ _ l, le-ltb _ _ g)
 
-pub value_end : (s : List ℕ) (n : ℕ) → s ≡ [] → value_from n s ≡ Value n
+pub value_end : (s : List ℕ) (n : ℕ) → s ≡ [] → value_from n s ≡ Some n
 unfolding value_from
 value_end s n e = rw e
 
@@ -38,27 +38,27 @@ number_good s h l f =
     (last (eqb (length s) 1) (eqb (get_or s 0 0) 48) refl refl)
   where
     last : (p q : Bool) → eqb (length s) 1 ≡ p → eqb (get_or s 0 0) 48 ≡ q
-        → cond p (value_from 0 s) (cond q Malformed (value_from 0 s)) ≡ value_from 0 s
+        → cond p (value_from 0 s) (cond q None (value_from 0 s)) ≡ value_from 0 s
     last true q ep eq = refl
     last false false ep eq = refl
     last false true ep eq = absurd (f (eqb-false _ _ ep) (eqb-true _ _ eq))
 
-pub number_empty : (s : List ℕ) → length s ≡ 0 → number_of s ≡ Malformed
+pub number_empty : (s : List ℕ) → length s ≡ 0 → number_of s ≡ None
 unfolding number_of
 number_empty s e = simp (eq-eqb _ _ e)
 
-pub number_long : (s : List ℕ) → 9 < length s → number_of s ≡ Malformed
+pub number_long : (s : List ℕ) → 9 < length s → number_of s ≡ None
 unfolding number_of
 number_long s h = simp (ne_eqb (length s) 0 (λ e. omega arith), lt-ltb _ _ h)
 
-same : (t : Bool) → cond t Malformed Malformed ≡ Malformed
-same true = refl
-same false = refl
+same : (t : Bool) (x : Option ℕ) → cond t x x ≡ x
+same true x = refl
+same false x = refl
 
-pub number_zero : (s : List ℕ) → (length s ≡ 1 → ⊥) → get_or s 0 0 ≡ 48 → number_of s ≡ Malformed
+pub number_zero : (s : List ℕ) → (length s ≡ 1 → ⊥) → get_or s 0 0 ≡ 48 → number_of s ≡ None
 unfolding number_of
 number_zero s h e = simp (ne_eqb _ _ h, eq-eqb _ _ e, same)
 
-pub number_bad : (s : List ℕ) → value_from 0 s ≡ Malformed → number_of s ≡ Malformed
+pub number_bad : (s : List ℕ) → value_from 0 s ≡ None → number_of s ≡ None
 unfolding number_of
 number_bad s e = simp (e, same)

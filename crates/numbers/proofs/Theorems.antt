@@ -14,19 +14,18 @@ use borrow.Author.Tests.{lt-ltb, le-ltb, ltb-false, eqb-true, eqb-false}
 use Rattle.lines.proofs.Laws.{lt_or_ge}
 use Rattle.digits.specs.Digits.{digits_at, digits_of}
 use Rattle.digits.proofs.Laws.{digits_pos, digits_step, digits_small, digits_at_most, digits_lead, zero_one}
-use Rattle.numbers.specs.declared.Number.{Number}
-use Rattle.numbers.specs.declared.Number.TheVariants.{Value, Malformed}
+use Rattle.std.specs.Prelude.{Option, Some, None}
 use Rattle.numbers.specs.Number.{value_from, number_of}
 use Rattle.numbers.specs.Theorems.{WriteThenRead, EveryNumber, ReadIsCanonical}
 use Rattle.numbers.proofs.Laws.{ten_le, number_good}
 
 -- digits behind a number, or behind none
-abbrev and_then : Number → List ℕ → Number
-and_then (Value m) t = value_from m t
-and_then Malformed t = Malformed
+abbrev and_then : Option ℕ → List ℕ → Option ℕ
+and_then (Some m) t = value_from m t
+and_then None t = None
 
-append_cond : (p q : Bool) (x : Number) (t : List ℕ)
-    → cond p Malformed (cond q Malformed (and_then x t)) ≡ and_then (cond p Malformed (cond q Malformed x)) t
+append_cond : (p q : Bool) (x : Option ℕ) (t : List ℕ)
+    → cond p None (cond q None (and_then x t)) ≡ and_then (cond p None (cond q None x)) t
 append_cond true q x t = refl
 append_cond false true x t = refl
 append_cond false false x t = refl
@@ -35,10 +34,10 @@ num_append : (s t : List ℕ) (n : ℕ) → value_from n (s ++ t) ≡ and_then (
 unfolding value_from
 num_append [] t n = refl
 num_append (b ∷ s) t n =
-    ap (λ (x : Number). cond (ltb b 48) Malformed (cond (ltb 57 b) Malformed x)) (num_append s t (n * 10 + (b - 48)))
+    ap (λ (x : Option ℕ). cond (ltb b 48) None (cond (ltb 57 b) None x)) (num_append s t (n * 10 + (b - 48)))
     ∙ append_cond (ltb b 48) (ltb 57 b) (value_from (n * 10 + (b - 48)) s) t
 
-num_one : (n d : ℕ) → d < 10 → value_from n ((48 + d) ∷ []) ≡ Value (n * 10 + d)
+num_one : (n d : ℕ) → d < 10 → value_from n ((48 + d) ∷ []) ≡ Some (n * 10 + d)
 unfolding value_from
 num_one n d h =
     let l : ltb (48 + d) 48 ≡ false = le-ltb (48 + d) 48 (omega arith) in
@@ -46,16 +45,16 @@ num_one n d h =
     let e : 48 + d - 48 ≡ d = omega arith in
     simp (l, g, e)
 
-value_at : (k n : ℕ) → n < 10 ^ suc k → value_from 0 (digits_at k n) ≡ Value n
+value_at : (k n : ℕ) → n < 10 ^ suc k → value_from 0 (digits_at k n) ≡ Some n
 unfolding digits_at
 value_at zero n h =
     let e : 0 * 10 + n % 10 ≡ n = omega arith in
-    num_one 0 (n % 10) (omega arith) ∙ ap Value e
+    num_one 0 (n % 10) (omega arith) ∙ ap Some e
 value_at (suc k) n h =
     ⊎_elim
     (λ l.
     let e : 0 * 10 + n ≡ n = omega arith in
-    simp (lt-ltb n 10 l) (num_one 0 n l ∙ ap Value e))
+    simp (lt-ltb n 10 l) (num_one 0 n l ∙ ap Some e))
     (λ l.
     let p = pow-suc 10 (suc k) in
     let q : n / 10 < 10 ^ suc k = omega arith in
@@ -63,8 +62,8 @@ value_at (suc k) n h =
     let d : n % 10 < 10 = omega arith in
     rw (digits_step k n l)
     (num_append (digits_at k (n / 10)) ((48 + n % 10) ∷ []) 0
-    ∙ (ap (λ (x : Number). and_then x ((48 + n % 10) ∷ [])) (value_at k (n / 10) q)
-    ∙ (num_one (n / 10) (n % 10) d ∙ ap Value e))))
+    ∙ (ap (λ (x : Option ℕ). and_then x ((48 + n % 10) ∷ [])) (value_at k (n / 10) q)
+    ∙ (num_one (n / 10) (n % 10) d ∙ ap Some e))))
     (lt_or_ge n 10)
 
 -- ---- one way: what is written is read
@@ -80,26 +79,26 @@ every_number n h = value_at 19 n (omega arith)
 -- ---- the other way: what `number_of` accepts is what printing writes
 
 -- a value from one digit more
-num_snoc : (s : List ℕ) (b n : ℕ) → value_from 0 (s ++ (b ∷ [])) ≡ Value n
-    → (q : ℕ) × (value_from 0 s ≡ Value q) × (48 ≤ b) × (b ≤ 57) × (n ≡ q * 10 + (b - 48))
+num_snoc : (s : List ℕ) (b n : ℕ) → value_from 0 (s ++ (b ∷ [])) ≡ Some n
+    → (q : ℕ) × (value_from 0 s ≡ Some q) × (48 ≤ b) × (b ≤ 57) × (n ≡ q * 10 + (b - 48))
 unfolding value_from
 num_snoc s b n e = behind (value_from 0 s) refl
   where
-    one : (q : ℕ) → value_from 0 s ≡ Value q → (x y : Bool) → ltb b 48 ≡ x → ltb 57 b ≡ y
-        → cond x Malformed (cond y Malformed (Value (q * 10 + (b - 48)))) ≡ Value n
-        → (q : ℕ) × (value_from 0 s ≡ Value q) × (48 ≤ b) × (b ≤ 57) × (n ≡ q * 10 + (b - 48))
+    one : (q : ℕ) → value_from 0 s ≡ Some q → (x y : Bool) → ltb b 48 ≡ x → ltb 57 b ≡ y
+        → cond x None (cond y None (Some (q * 10 + (b - 48)))) ≡ Some n
+        → (q : ℕ) × (value_from 0 s ≡ Some q) × (48 ≤ b) × (b ≤ 57) × (n ≡ q * 10 + (b - 48))
     one q f true y ex ey g = let z : ◌≡◌ {A = ℕ} 0 1 = cc in absurd (omega arith)
     one q f false true ex ey g = let z : ◌≡◌ {A = ℕ} 0 1 = cc in absurd (omega arith)
     one q f false false ex ey g = (q, f, ltb-false b 48 ex, ltb-false 57 b ey, (cc))
 
-    behind : (x : Number) → value_from 0 s ≡ x
-        → (q : ℕ) × (value_from 0 s ≡ Value q) × (48 ≤ b) × (b ≤ 57) × (n ≡ q * 10 + (b - 48))
-    behind (Value q) f =
+    behind : (x : Option ℕ) → value_from 0 s ≡ x
+        → (q : ℕ) × (value_from 0 s ≡ Some q) × (48 ≤ b) × (b ≤ 57) × (n ≡ q * 10 + (b - 48))
+    behind (Some q) f =
         one q f (ltb b 48) (ltb 57 b) refl refl
-        (ap (λ (x : Number). and_then x (b ∷ [])) (sym f) ∙ (sym (num_append s (b ∷ []) 0) ∙ e))
-    behind Malformed f =
-        let g : Malformed ≡ Value n =
-        ap (λ (x : Number). and_then x (b ∷ [])) (sym f) ∙ (sym (num_append s (b ∷ []) 0) ∙ e) in
+        (ap (λ (x : Option ℕ). and_then x (b ∷ [])) (sym f) ∙ (sym (num_append s (b ∷ []) 0) ∙ e))
+    behind None f =
+        let g : None ≡ Some n =
+        ap (λ (x : Option ℕ). and_then x (b ∷ [])) (sym f) ∙ (sym (num_append s (b ∷ []) 0) ∙ e) in
         let z : ◌≡◌ {A = ℕ} 0 1 = cc in
         absurd (omega arith)
 
@@ -107,7 +106,7 @@ snoc : (s : List ℕ) (m : ℕ) → length s ≡ suc m → s ≡ take m s ++ (ge
 snoc s m e = sym (take_all (suc m) s (omega arith)) ∙ take-suc s m 0 (omega arith)
 
 -- one digit alone
-one_digit : (s : List ℕ) (n : ℕ) → length s ≡ 1 → value_from 0 s ≡ Value n
+one_digit : (s : List ℕ) (n : ℕ) → length s ≡ 1 → value_from 0 s ≡ Some n
     → (s ≡ (48 + n) ∷ []) × (n < 10) × (get_or s 0 0 ≡ 48 + n)
 unfolding value_from
 one_digit s n e f =
@@ -119,7 +118,7 @@ one_digit s n e f =
     (t ∙ ap (λ (x : ℕ). x ∷ []) h, omega (arith, g.2, g.3, g.4), h)
 
 -- digits that do not begin with 0 stand for a positive number
-positive : (m : ℕ) (s : List ℕ) (n : ℕ) → length s ≡ suc m → (get_or s 0 0 ≡ 48 → ⊥) → value_from 0 s ≡ Value n → 0 < n
+positive : (m : ℕ) (s : List ℕ) (n : ℕ) → length s ≡ suc m → (get_or s 0 0 ≡ 48 → ⊥) → value_from 0 s ≡ Some n → 0 < n
 positive zero s n e h f =
     let o = one_digit s n e f in
     ⊎_elim (λ l. l) (λ l. absurd (h (let u : get_or s 0 0 ≡ 48 = omega (arith, o.2) in u))) (lt_or_ge 0 n)
@@ -134,7 +133,7 @@ positive (suc m) s n e h f =
     omega (arith, g.4)
 
 canonical : (m k : ℕ) (s : List ℕ) (n : ℕ) → length s ≡ suc m → m ≤ k → ((m ≡ 0 → ⊥) → get_or s 0 0 ≡ 48 → ⊥)
-    → value_from 0 s ≡ Value n → (s ≡ digits_at k n) × (n < 10 ^ suc m)
+    → value_from 0 s ≡ Some n → (s ≡ digits_at k n) × (n < 10 ^ suc m)
 canonical zero k s n e h u f =
     let o = one_digit s n e f in
     (o.0 ∙ sym (digits_small k n o.1), o.1)
@@ -164,16 +163,16 @@ test_pos : (s : List ℕ) → eqb (length s) 0 ≡ false → 0 < length s
 test_pos s x = ⊎_elim (λ l. l) (λ l. absurd (eqb-false (length s) 0 x (omega arith))) (lt_or_ge 0 (length s))
 
 -- which tests of `number_of` a value has passed
-passed : (s : List ℕ) (n : ℕ) → number_of s ≡ Value n
-    → (0 < length s) × (length s ≤ 9) × ((length s ≡ 1 → ⊥) → get_or s 0 0 ≡ 48 → ⊥) × (value_from 0 s ≡ Value n)
+passed : (s : List ℕ) (n : ℕ) → number_of s ≡ Some n
+    → (0 < length s) × (length s ≤ 9) × ((length s ≡ 1 → ⊥) → get_or s 0 0 ≡ 48 → ⊥) × (value_from 0 s ≡ Some n)
 unfolding number_of
 passed s n f =
     by_tests (eqb (length s) 0) (ltb 9 (length s)) (eqb (length s) 1) (eqb (get_or s 0 0) 48) refl refl refl refl f
   where
     by_tests : (a b c d : Bool) → eqb (length s) 0 ≡ a → ltb 9 (length s) ≡ b → eqb (length s) 1 ≡ c
         → eqb (get_or s 0 0) 48 ≡ d
-        → cond a Malformed (cond b Malformed (cond c (value_from 0 s) (cond d Malformed (value_from 0 s)))) ≡ Value n
-        → (0 < length s) × (length s ≤ 9) × ((length s ≡ 1 → ⊥) → get_or s 0 0 ≡ 48 → ⊥) × (value_from 0 s ≡ Value n)
+        → cond a None (cond b None (cond c (value_from 0 s) (cond d None (value_from 0 s)))) ≡ Some n
+        → (0 < length s) × (length s ≤ 9) × ((length s ≡ 1 → ⊥) → get_or s 0 0 ≡ 48 → ⊥) × (value_from 0 s ≡ Some n)
     by_tests true b c d ea eb ec ed g = let z : ◌≡◌ {A = ℕ} 0 1 = cc in absurd (omega arith)
     by_tests false true c d ea eb ec ed g = let z : ◌≡◌ {A = ℕ} 0 1 = cc in absurd (omega arith)
     by_tests false false true d ea eb ec ed g =

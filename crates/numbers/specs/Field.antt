@@ -1,12 +1,7 @@
 -- The field that stands at a place of a text: its number, and the place where it ends. Assumes nothing.
-use Rattle.std.specs.Prelude.{ℕ, ◌+◌, ◌≤◌, ◌<◌, ◌≡◌, if◌then◌else◌, List, [], ◌∷◌, nat_lt, length, take, drop}
+use Rattle.std.specs.Prelude.{ℕ, ◌+◌, ◌≤◌, ◌<◌, ◌≡◌, if◌then◌else◌, List, [], ◌∷◌, nat_lt, length, take, drop, Option, Some, None, IfSome}
 use Rattle.lines.specs.Lines.{up_to}
-use Rattle.numbers.specs.declared.Number.{Number}
-use Rattle.numbers.specs.declared.Number.TheVariants.{Value}
-use Rattle.numbers.specs.declared.Number.TheVariants.{Malformed as NoNumber}
 use Rattle.numbers.specs.declared.Field.{Field}
-use Rattle.numbers.specs.declared.Field.TheVariants.{Malformed}
-use Rattle.numbers.specs.declared.Field.TheVariants.{Number as NumberTo}
 use Rattle.numbers.specs.Number.{value_from, number_of}
 
 -- what stands before the first comma (44), or all of it where there is none
@@ -19,31 +14,30 @@ leading [] = []
 leading (b ∷ bs) = if nat_lt b 48 then [] else if nat_lt 57 b then [] else b ∷ leading bs
 
 -- a number that ends at a place
-abbrev pub ending_at : ℕ → Number → Field
-ending_at end (Value n) = NumberTo n end
-ending_at end NoNumber = Malformed
+abbrev pub ending_at : ℕ → Option ℕ → Option Field
+ending_at place (Some n) = Some (record { value = n; end = place })
+ending_at place None = None
 
 -- the field from a place on, up to the first comma or the end of the text
-unfoldable pub field_at : List ℕ → ℕ → Field
+unfoldable pub field_at : List ℕ → ℕ → Option Field
 field_at s at = ending_at (at + up_to 44 (drop at s)) (number_of (field (drop at s)))
 
 -- the number of the digits from a place on, up to the first byte that is none
-unfoldable pub leading_at : List ℕ → ℕ → Field
+unfoldable pub leading_at : List ℕ → ℕ → Option Field
 leading_at s at = ending_at (at + length (leading (drop at s))) (number_of (leading (drop at s)))
 
 -- the digits from a place on end at another, are at most nine, and have the value n
 pub record DigitsTo (s : List ℕ) (at end n : ℕ) : Type 0 where
   pub ends : at + length (leading (drop at s)) ≡ end
   pub few : end ≤ at + 9
-  pub value : value_from 0 (leading (drop at s)) ≡ Value n
+  pub value : value_from 0 (leading (drop at s)) ≡ Some n
   pub fits : n < 1000000000
 
 -- what passing the digits from a place on finds
-abbrev pub DigitsPassed : List ℕ → ℕ → Field → Type 0
-DigitsPassed s at (NumberTo n end) = DigitsTo s at end n
-DigitsPassed s at Malformed = 9 < length (leading (drop at s))
+abbrev pub DigitsPassed : List ℕ → ℕ → Option Field → Type 0
+DigitsPassed s at (Some number) = DigitsTo s at number.end number.value
+DigitsPassed s at None = 9 < length (leading (drop at s))
 
 -- a field ends within the text, and its number has at most nine digits
-abbrev pub FieldFits : ℕ → Field → Type 0
-FieldFits size (NumberTo n end) = (end ≤ size) × (n < 1000000000)
-FieldFits size Malformed = Unit {0}
+abbrev pub FieldFits : ℕ → Option Field → Type 0
+FieldFits size field = IfSome field (λ f. (f.end ≤ size) × (f.value < 1000000000))

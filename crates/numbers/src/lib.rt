@@ -9,107 +9,69 @@ ghost use Rattle.std.specs.Prelude.{◌≡◌, length};
 ghost use Rattle.numbers.specs.Field.{field_at, leading_at, DigitsPassed, FieldFits};
 ghost use Rattle.numbers.specs.Number.{number_of, NineDigits};
 
-const COMMA: u8 = 44;
-
-#[derive(Drop)]
-pub enum Number {
-    Value(u64),
-    Malformed,
-}
+const COMMA: u8 = b',';
 
 // A number, and the place where its field ends.
-#[derive(Drop)]
-pub enum Field {
-    Number { value: u64, end: usize },
-    Malformed,
+#[derive(Clone, Copy, Debug, PartialEq, Eq)]
+pub struct Field {
+    pub value: u64,
+    pub end: usize,
 }
 
-fn wide(x: u8) -> u64
-    ensures { result ≡ x }
-{
-    x as u64
-}
-
-// The digits from a place on: their value and where they end; malformed if there are more than nine.
-fn pass_digits(s: &[u8], at: usize) -> Field
+// The digits from a place on: their value and where they end; none if there are more than nine.
+fn pass_digits(s: &[u8], at: usize) -> Option<Field>
     ensures { DigitsPassed s.now at result }
 {
-    let mut n: u64 = 0;
-    let mut i = at;
-    while i < s.len() {
-        let b = wide(s[i]);
-        if b < 48 {
-            return Field::Number { value: n, end: i };
-        }
-        if 57 < b {
-            return Field::Number { value: n, end: i };
-        }
+    let mut value = 0;
+    for i in at..s.len() {
+        let digit @ b'0'..=b'9' = s[i] else {
+            return Some(Field { value, end: i });
+        };
         if i - at == 9 {
-            return Field::Malformed;
+            return None;
         }
-        n = n * 10 + (b - 48);
-        i += 1;
+        value = value * 10 + u64::from(digit - b'0');
     }
-    Field::Number { value: n, end: i }
+    let end = at.max(s.len());
+    Some(Field { value, end })
 }
 
 // The number of the digits from a place on, up to the first byte that is none. What that byte must be, the callers try
 // behind the loop: a test less for each digit.
-fn leading_number(s: &[u8], at: usize) -> Field
-    ensures { (result ≡ leading_at s.now at) × FieldFits (length s.now) result }
+fn leading_number(s: &[u8], at: usize) -> Option<Field>
+    ensures is_leading { result ≡ leading_at s.now at }
+    ensures fits { FieldFits (length s.now) result }
 {
-    let Field::Number { value, end } = pass_digits(s, at) else {
-        return Field::Malformed;
-    };
-    if end == at {
-        return Field::Malformed;
+    let number = pass_digits(s, at)?;
+    if number.end == at {
+        return None;
     }
-    if s[at] == 48 {
-        if end - at == 1 {
-            return Field::Number {
-                value: value,
-                end: end,
-            };
-        }
-        return Field::Malformed;
+    if s[at] == b'0' && number.end - at > 1 {
+        return None;
     }
-    Field::Number {
-        value: value,
-        end: end,
-    }
+    Some(number)
 }
 
 // The field from a place on, up to the first comma or the end of the text.
-pub fn read_field(s: &[u8], at: usize) -> Field
-    ensures { (result ≡ field_at s.now at) × FieldFits (length s.now) result }
+pub fn read_field(s: &[u8], at: usize) -> Option<Field>
+    ensures is_the_field { result ≡ field_at s.now at }
+    ensures fits { FieldFits (length s.now) result }
 {
-    let Field::Number { value, end } = leading_number(s, at) else {
-        return Field::Malformed;
-    };
-    if end == s.len() {
-        return Field::Number {
-            value: value,
-            end: end,
-        };
+    let number = leading_number(s, at)?;
+    if number.end < s.len() && s[number.end] != COMMA {
+        return None;
     }
-    if s[end] == COMMA {
-        return Field::Number {
-            value: value,
-            end: end,
-        };
-    }
-    Field::Malformed
+    Some(number)
 }
 
 // The number that a field stands for. A value is below 1,000,000,000.
-pub fn read_number(field: &[u8]) -> Number
-    ensures { (result ≡ number_of field.now) × NineDigits result }
+pub fn read_number(field: &[u8]) -> Option<u64>
+    ensures is_the_number { result ≡ number_of field.now }
+    ensures nine_digits { NineDigits result }
 {
-    let Field::Number { value, end } = leading_number(field, 0) else {
-        return Number::Malformed;
-    };
-    if end == field.len() {
-        return Number::Value(value);
+    let number = leading_number(field, 0)?;
+    if number.end < field.len() {
+        return None;
     }
-    Number::Malformed
+    Some(number.value)
 }

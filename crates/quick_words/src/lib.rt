@@ -2,137 +2,89 @@
 // guess is right for each of the ten words, so the word that stands is always found.
 //
 // Nothing branches on the word: which one comes next cannot be guessed, and a branch that is guessed wrong costs more
-// than the look itself. So a word is a code, and what is known of each code stands in a table. A constant array is laid
-// out anew wherever it is used, so a caller takes the table once. The crate assumes nothing of its own.
-//
-// The codes: 0 add, 1 remove, 2 has, 3 push, 4 min, 5 take, 6 begin, 7 commit, 8 undo; 9 and any other back. Behind
-// the words with a code below 4 stands a cue.
+// than the look itself. So what is known of each word stands in a table, which a caller makes once. No public function
+// has a `requires`, and the crate assumes nothing of its own.
 #![tactic(auto)]
 
-ghost use Rattle.std.specs.Prelude.{◌<◌, ◌≤◌, ◌≡◌, length, drop};
-ghost use Rattle.quick_words.specs.QuickWord.{code_text, cue_code, number_code, word_table, word_found};
+ghost use Rattle.std.specs.Prelude.{◌≡◌, drop};
+ghost use Rattle.quick_words.specs.Row.{table_rows, row_of, word_line};
+ghost use Rattle.quick_words.specs.QuickWord.{word_found};
 
-use buffers::fits;
 use eight_bytes::eight_bytes;
-use step_words::{CueWord, NumberWord};
+use step_words::{CueWord, NumberWord, Word};
 
+// What is known of a word: the number of its bytes with its comma, the mask of as many bytes, and how many.
+#[derive(Clone, Copy, Debug, PartialEq, Eq)]
+pub struct Row {
+    number: u64,
+    mask: u64,
+    length: usize,
+    word: Word,
+}
+
+// A word that stands with its comma, and how many bytes both have.
+#[derive(Clone, Copy, Debug, PartialEq, Eq)]
+pub struct QuickWord {
+    pub word: Word,
+    pub length: usize,
+}
+
+// The row of a word, from its text with the comma.
+fn known_word(text: &[u8], word: Word) -> Row
+    requires { text.now ≡ word_line word }
+    ensures { result ≡ row_of word }
+{
+    let mut bytes = [0; 8];
+    bytes[..text.len()].copy_from_slice(text);
+    Row {
+        number: u64::from_le_bytes(bytes),
+        mask: u64::MAX >> (64 - 8 * text.len()),
+        length: text.len(),
+        word,
+    }
+}
+
+// A row for each of the sixteen slots. The ten words have ten slots, so a word that is not the one of its slot is none
+// of them; six slots have a row twice.
 #[derive(Drop)]
-pub enum QuickWord {
-    Found(u64),
-    Unsure,
+pub struct WordTable {
+    rows: [Row; 16],
+    ghost known: { rows ≡ table_rows },
 }
 
-// The code to try for each of the sixteen slots, four bits each; 0 where no word has the slot. The ten words have ten
-// slots, so a word that is not the one tried is none of them.
-const CODES: u64 = 4697342406740150535;
-
-// Of each code: the number of the word's bytes with its comma, then the mask of as many bytes, then how many.
-const WORDS: [u64; 48] = [
-    744776801,
-    12496458325255538,
-    745759080,
-    190730958192,
-    745433453,
-    190680097140,
-    48852726408546,
-    12512895131545443,
-    190847413877,
-    190780236130,
-    190780236130,
-    190780236130,
-    190780236130,
-    190780236130,
-    190780236130,
-    190780236130,
-    4294967295,
-    72057594037927935,
-    4294967295,
-    1099511627775,
-    4294967295,
-    1099511627775,
-    281474976710655,
-    72057594037927935,
-    1099511627775,
-    1099511627775,
-    1099511627775,
-    1099511627775,
-    1099511627775,
-    1099511627775,
-    1099511627775,
-    1099511627775,
-    4,
-    7,
-    4,
-    5,
-    4,
-    5,
-    6,
-    7,
-    5,
-    5,
-    5,
-    5,
-    5,
-    5,
-    5,
-    5,
-];
-
-// The table that a look reads.
-pub fn word_table() -> [u64; 48]
-    ensures { result ≡ word_table }
-{
-    WORDS
-}
-
-// The word that stands at a place with its comma. Unsure where none of the ten does, or fewer than eight bytes.
-pub fn quick_word(words: &[u64; 48], text: &[u8], at: usize) -> QuickWord
-    requires { words.now ≡ word_table }
-    ensures { result ≡ word_found (drop at text.now) }
-{
-    if !fits(text.len(), at, 8) {
-        return QuickWord::Unsure;
+impl WordTable {
+    pub fn new() -> WordTable {
+        let add = known_word(b"add,", Word::WithCue(CueWord::Add));
+        let remove = known_word(b"remove,", Word::WithCue(CueWord::Remove));
+        let has = known_word(b"has,", Word::WithCue(CueWord::Has));
+        let push = known_word(b"push,", Word::WithCue(CueWord::Push));
+        let min = known_word(b"min,", Word::WithNumber(NumberWord::Min));
+        let take = known_word(b"take,", Word::WithNumber(NumberWord::Take));
+        let begin = known_word(b"begin,", Word::WithNumber(NumberWord::Begin));
+        let commit = known_word(b"commit,", Word::WithNumber(NumberWord::Commit));
+        let undo = known_word(b"undo,", Word::WithNumber(NumberWord::Undo));
+        let back = known_word(b"back,", Word::WithNumber(NumberWord::Back));
+        let rows = [
+            commit, add, back, add, add, has, begin, add, undo, add, add, take, add, push, remove,
+            min,
+        ];
+        WordTable { rows }
     }
-    let x = eight_bytes(text, at);
-    // half the first byte and the second, of which only the low four bits count
-    let slot = (x / 2 + x / 256) % 16;
-    let code = (CODES >> (slot * 4)) % 16;
-    let i = code as usize;
-    if x & words[16 + i] != words[i] {
-        return QuickWord::Unsure;
-    }
-    QuickWord::Found(code)
-}
 
-// How many bytes the word has with its comma.
-pub fn word_length(words: &[u64; 48], code: u64) -> usize
-    requires { (words.now ≡ word_table) × (code < 16) }
-    ensures { (result ≡ length (code_text code)) × (result ≤ 7) }
-{
-    let i = code as usize;
-    words[32 + i] as usize
-}
-
-pub fn cue_word(code: u64) -> CueWord
-    ensures { result ≡ cue_code code }
-{
-    match code {
-        0 => CueWord::Add,
-        1 => CueWord::Remove,
-        2 => CueWord::Has,
-        _ => CueWord::Push,
-    }
-}
-
-pub fn number_word(code: u64) -> NumberWord
-    ensures { result ≡ number_code code }
-{
-    match code {
-        0 | 1 | 2 | 3 | 4 => NumberWord::Min,
-        5 => NumberWord::Take,
-        6 => NumberWord::Begin,
-        7 => NumberWord::Commit,
-        8 => NumberWord::Undo,
-        _ => NumberWord::Back,
+    // The word that stands at a place with its comma; none where none of the ten does, or fewer than eight bytes.
+    pub fn quick_word(&self, text: &[u8], at: usize) -> Option<QuickWord>
+        ensures { result ≡ word_found (drop at text.now) }
+    {
+        let bytes = eight_bytes(text, at)?;
+        // half the first byte and the second, of which only the low four bits count
+        let slot = (bytes / 2 + bytes / 256) % 16;
+        let row = self.rows[slot as usize];
+        if bytes & row.mask != row.number {
+            return None;
+        }
+        Some(QuickWord {
+            word: row.word,
+            length: row.length,
+        })
     }
 }

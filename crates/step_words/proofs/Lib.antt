@@ -1,3 +1,2 @@
--- Laws of words; the folders beside them hold the proofs of the functions. Assumes nothing.
-pub mod Words
+-- Laws of words. Assumes nothing.
 pub mod WordText

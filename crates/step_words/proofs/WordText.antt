@@ -1,39 +1,51 @@
--- The bytes read as a word are its text. Assumes nothing.
-use mathlib.Core.Path.{◌≡◌, refl}
-use mathlib.Core.Bool.{Bool, true, false, cond}
-use mathlib.Core.List.{List}
-use Prim.Native.Nat.{ℕ}
-use Rattle.step_words.specs.declared.NumberWord.TheVariants.{Begin, Min, Take, Commit, Undo, Back}
+-- Bytes read as a word are its text, and that text is read as the word; a text is told by its bytes one by one.
+-- Assumes nothing.
+use Rattle.std.proofs.Common.{arith, refl, ◌∙◌, ◌≡◌, ℕ, suc, ◌+◌, List, [], ◌∷◌, Bool, true, false, cond, length, get_or, drop}
+use Rattle.std.proofs.Math.ListN.{drop_of_length-le}
+use Rattle.std.proofs.Math.Seq.{drop-cons}
+use Rattle.std.proofs.lemmas.Slice.Eq.{bytes_eq-Decides}
+use Rattle.std.specs.Prelude.{Some, find, bytes_eq}
 use Rattle.step_words.specs.declared.CueWord.TheVariants.{Add, Remove, Has, Push}
+use Rattle.step_words.specs.declared.NumberWord.TheVariants.{Begin, Min, Take, Commit, Undo, Back}
 use Rattle.step_words.specs.declared.Word.{Word}
-use Rattle.step_words.specs.declared.Word.TheVariants.{WithNumber, WithCue, Unknown}
-use Rattle.step_words.specs.Word.{number_word, cue_word, word_of}
-use Rattle.same_bytes.specs.Same.{same}
-use Rattle.same_bytes.proofs.Laws.{same_true}
+use Rattle.step_words.specs.declared.Word.TheVariants.{WithNumber, WithCue}
+use Rattle.step_words.specs.Word.{word_text, words, word_of}
 
-abbrev pub IsWord : List ℕ → Word → Type 0
-IsWord w (WithNumber k) = w ≡ number_word k
-IsWord w (WithCue k) = w ≡ cue_word k
-IsWord w Unknown = Unit {0}
+-- the bytes of `l` from the place `at` on are those of the text
+abbrev pub Reads : List ℕ → ℕ → List ℕ → Type 0
+Reads l at [] = Unit {0}
+Reads l at (b ∷ text) = (get_or l at 0 ≡ b) × Reads l (suc at) text
+
+pub told : (l : List ℕ) (at : ℕ) (text : List ℕ) → at + length text ≡ length l → Reads l at text → drop at l ≡ text
+told l at [] n r = drop_of_length-le l {i = at} (omega arith)
+told l at (b ∷ text) n r = let rest = told l (suc at) text (omega arith) r.1 in drop-cons l at 0 (omega arith) ∙ cc (r.0)
+
+-- what `find` finds passes its test
+pub found : {A : Type 0} (test : A → Bool) (x : A) (xs : List A) → find test xs ≡ Some x → test x ≡ true
+found test x [] e = absurd (cc)
+found test x (y ∷ xs) e = by_test (test y) refl e (found test x xs)
+  where
+    by_test : (t : Bool) → test y ≡ t → cond t (Some y) (find test xs) ≡ Some x
+        → (find test xs ≡ Some x → test x ≡ true) → test x ≡ true
+    by_test true q e more = let same : y ≡ x = cc in rw same at q
+    by_test false q e more = more e
 
 -- the bytes that are read as a word are its text
-pub is_word : (w : List ℕ) → IsWord w (word_of w)
+pub is_word : (bytes : List ℕ) (word : Word) → word_of bytes ≡ Some word → bytes ≡ word_text word
 unfolding word_of
-is_word w =
-    pick (number_word Begin) (WithNumber Begin) _ (λ e. e)
-    (pick (cue_word Add) (WithCue Add) _ (λ e. e)
-    (pick (cue_word Remove) (WithCue Remove) _ (λ e. e)
-    (pick (cue_word Has) (WithCue Has) _ (λ e. e)
-    (pick (cue_word Push) (WithCue Push) _ (λ e. e)
-    (pick (number_word Min) (WithNumber Min) _ (λ e. e)
-    (pick (number_word Take) (WithNumber Take) _ (λ e. e)
-    (pick (number_word Commit) (WithNumber Commit) _ (λ e. e)
-    (pick (number_word Undo) (WithNumber Undo) _ (λ e. e)
-    (pick (number_word Back) (WithNumber Back) Unknown (λ e. e) tt)))))))))
-  where
-    by_test : (b : Bool) (x y : Word) → (b ≡ true → IsWord w x) → IsWord w y → IsWord w (cond b x y)
-    by_test true x y this that = this refl
-    by_test false x y this that = that
+is_word bytes word e =
+    (bytes_eq-Decides bytes (word_text word)).0 (found (λ w. bytes_eq bytes (word_text w)) word words e)
 
-    pick : (text : List ℕ) (x y : Word) → (w ≡ text → IsWord w x) → IsWord w y → IsWord w (cond (same w text) x y)
-    pick text x y this that = by_test (same w text) x y (λ e. this (same_true w text e)) that
+-- the text of each word is read as that word
+pub text_is_read : (word : Word) → word_of (word_text word) ≡ Some word
+unfolding word_of
+text_is_read (WithNumber Begin) = refl
+text_is_read (WithNumber Min) = refl
+text_is_read (WithNumber Take) = refl
+text_is_read (WithNumber Commit) = refl
+text_is_read (WithNumber Undo) = refl
+text_is_read (WithNumber Back) = refl
+text_is_read (WithCue Add) = refl
+text_is_read (WithCue Remove) = refl
+text_is_read (WithCue Has) = refl
+text_is_read (WithCue Push) = refl

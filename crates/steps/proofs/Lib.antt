@@ -1,6 +1,5 @@
 -- Laws, theorems and examples; the folders beside them hold the proofs of the functions. Assumes nothing.
 pub mod Examples
-pub mod Fields
 pub mod StepText
 pub mod Steps
 pub mod Theorems

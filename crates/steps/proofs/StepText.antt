@@ -15,14 +15,12 @@ use Rattle.lines.specs.Lines.{up_to}
 use Rattle.lines.proofs.Laws.{up_append}
 use Rattle.digits.specs.Digits.{digits_of}
 use Rattle.numbers.specs.Number.{number_of}
-use Rattle.numbers.specs.declared.Number.{Number}
-use Rattle.numbers.specs.declared.Number.TheVariants.{Value}
-use Rattle.numbers.specs.declared.Number.TheVariants.{Malformed as NoNumber}
+use Rattle.std.specs.Prelude.{Option, Some, None}
 use Rattle.digits.proofs.Laws.{none_digits}
 use Rattle.numbers.proofs.Theorems.{write_then_read, read_is_canonical}
 use Rattle.numbers.specs.Field.{field}
 use Rattle.cue_lines.specs.CueLine.{others, three_numbers, fields_of}
-use Rattle.cue_lines.specs.declared.Fields.TheVariants.{Numbers}
+use Rattle.cue_lines.proofs.Laws.{numbers_of}
 use Rattle.cues.specs.declared.CueNumbers.{CueNumbers}
 use Rattle.step_words.specs.declared.NumberWord.{NumberWord}
 use Rattle.step_words.specs.declared.CueWord.{CueWord}
@@ -36,21 +34,21 @@ module _ (n : ℕ) (r : List ℕ) where
   to_comma : up_to 44 (digits_of n ++ 44 ∷ r) ≡ length (digits_of n)
   to_comma = up_append 44 (digits_of n) r (none_digits 44 19 n (omega arith))
 
-  first_read : NineDigits n → number_of (field (digits_of n ++ 44 ∷ r)) ≡ Value n
+  first_read : NineDigits n → number_of (field (digits_of n ++ 44 ∷ r)) ≡ Some n
   first_read h = rw to_comma (ap number_of (take-append_seam (digits_of n) (44 ∷ r)) ∙ write_then_read n h)
 
   others_read : others (digits_of n ++ 44 ∷ r) ≡ r
   others_read = rw to_comma (drop-append-add (digits_of n) (44 ∷ r) 1)
 
 cue_read : (t m p : ℕ) → NineDigits t → NineDigits m → NineDigits p
-    → fields_of (digits_of t ++ 44 ∷ (digits_of m ++ 44 ∷ digits_of p)) ≡ Numbers t m p
+    → fields_of (digits_of t ++ 44 ∷ (digits_of m ++ 44 ∷ digits_of p)) ≡ numbers_of t m p
 unfolding fields_of
 cue_read t m p ht hm hp =
     let rest = digits_of m ++ 44 ∷ digits_of p in
     let o = others_read t rest in
-    let vm : number_of (field (others (digits_of t ++ 44 ∷ rest))) ≡ Value m =
+    let vm : number_of (field (others (digits_of t ++ 44 ∷ rest))) ≡ Some m =
     ap (λ (l : List ℕ). number_of (field l)) o ∙ first_read m (digits_of p) hm in
-    let vp : number_of (others (others (digits_of t ++ 44 ∷ rest))) ≡ Value p =
+    let vp : number_of (others (others (digits_of t ++ 44 ∷ rest))) ≡ Some p =
     ap number_of (ap others o ∙ others_read m (digits_of p)) ∙ write_then_read p hp in
     rw (first_read t rest ht, vm, vp)
 
@@ -59,16 +57,16 @@ call_fields : (e : ℕ) (c : CueNumbers)
 unfolding call_text
 call_fields e c = simp append_assoc
 
-pub number_written : (k : NumberWord) (e : ℕ) → NineDigits e → numbered k (number_of (digits_of e)) ≡ WithNumber k e
+pub number_written : (k : NumberWord) (e : ℕ) → NineDigits e → numbered k (number_of (digits_of e)) ≡ Some (WithNumber k e)
 number_written k e h = rw (write_then_read e h)
 
 pub call_written : (k : CueWord) (e : ℕ) (c : CueNumbers) → NineDigitCall e c
-    → cued k (number_of (field (call_text e c))) (fields_of (others (call_text e c))) ≡ WithCue k e c
+    → cued k (number_of (field (call_text e c))) (fields_of (others (call_text e c))) ≡ Some (WithCue k e c)
 call_written k e c h =
     let cue = digits_of c.time ++ 44 ∷ (digits_of c.«module» ++ 44 ∷ digits_of c.pin) in
-    let v : number_of (field (call_text e c)) ≡ Value e =
+    let v : number_of (field (call_text e c)) ≡ Some e =
     ap (λ (l : List ℕ). number_of (field l)) (call_fields e c) ∙ first_read e cue h.transaction in
-    let f : fields_of (others (call_text e c)) ≡ Numbers c.time c.«module» c.pin =
+    let f : fields_of (others (call_text e c)) ≡ numbers_of c.time c.«module» c.pin =
     ap fields_of (ap others (call_fields e c) ∙ others_read e cue)
     ∙ cue_read c.time c.«module» c.pin h.time h.«module» h.pin in
     rw (v, f)
@@ -94,45 +92,45 @@ split (b ∷ l) = by_test (eqb b 44) refl (split l)
 pub at_comma : (l : List ℕ) → (others l ≡ [] → ⊥) → l ≡ field l ++ 44 ∷ others l
 at_comma l some = ⊎_elim (λ e. e) (λ e. absurd (some e)) (split l)
 
-pub not_nil : (l : List ℕ) (n : ℕ) → number_of l ≡ Value n → l ≡ [] → ⊥
-not_nil l n v e =
-    let w : Value n ≡ NoNumber = sym v ∙ (ap number_of e ∙ number_nil) in
-    let z : ◌≡◌ {A = ℕ} 0 1 = cc in
-    omega arith
+pub not_nil : (l : List ℕ) (n : ℕ) → number_of l ≡ Some n → l ≡ [] → ⊥
+not_nil l n v e = let w : Some n ≡ None = sym v ∙ (ap number_of e ∙ number_nil) in cc
 
 others_not_nil : (l : List ℕ) → (others l ≡ [] → ⊥) → l ≡ [] → ⊥
 unfolding up_to
 others_not_nil l some e = some (ap others e)
 
-three_values : (x y z : Number) (t m p : ℕ) → three_numbers x y z ≡ Numbers t m p
-    → (x ≡ Value t) × (y ≡ Value m) × (z ≡ Value p)
-three_values NoNumber y z t m p e = let w : ◌≡◌ {A = ℕ} 0 1 = cc in absurd (omega arith)
-three_values (Value a) NoNumber z t m p e = let w : ◌≡◌ {A = ℕ} 0 1 = cc in absurd (omega arith)
-three_values (Value a) (Value b) NoNumber t m p e = let w : ◌≡◌ {A = ℕ} 0 1 = cc in absurd (omega arith)
-three_values (Value a) (Value b) (Value c) t m p e = ((cc), (cc), (cc))
+three_values : (x y z : Option ℕ) (cue : CueNumbers) → three_numbers x y z ≡ Some cue
+    → (x ≡ Some cue.time) × (y ≡ Some cue.«module») × (z ≡ Some cue.pin)
+three_values None y z cue e = absurd (cc)
+three_values (Some a) None z cue e = absurd (cc)
+three_values (Some a) (Some b) None cue e = absurd (cc)
+three_values (Some a) (Some b) (Some c) cue e =
+    let same : ◌≡◌ {A = CueNumbers} (record { time = a; «module» = b; pin = c }) cue = cc in (
+      ap (λ (n : CueNumbers). Some n.time) same,
+      ap (λ (n : CueNumbers). Some n.«module») same,
+      ap (λ (n : CueNumbers). Some n.pin) same,
+    )
 
 -- the fields `e,t,m,p` are the text of their numbers, and there are such fields
-pub call_canonical : (r : List ℕ) (e t m p : ℕ) → number_of (field r) ≡ Value e → fields_of (others r) ≡ Numbers t m p
-    → (r ≡ call_text e (record { time = t; «module» = m; pin = p }))
-    × NineDigitCall e (record { time = t; «module» = m; pin = p })
-    × (r ≡ [] → ⊥)
+pub call_canonical : (r : List ℕ) (e : ℕ) (cue : CueNumbers) → number_of (field r) ≡ Some e
+    → fields_of (others r) ≡ Some cue → (r ≡ call_text e cue) × NineDigitCall e cue × (r ≡ [] → ⊥)
 unfolding fields_of
-call_canonical r e t m p ve f =
+call_canonical r e cue ve f =
     let y = others r in
-    let cue : CueNumbers = record { time = t; «module» = m; pin = p } in
-    let v = three_values (number_of (field y)) (number_of (field (others y))) (number_of (others (others y))) t m p f in
+    let v = three_values (number_of (field y)) (number_of (field (others y))) (number_of (others (others y))) cue f in
     let ce = read_is_canonical (field r) e ve in
-    let ct = read_is_canonical (field y) t v.0 in
-    let cm = read_is_canonical (field (others y)) m v.1 in
-    let cp = read_is_canonical (others (others y)) p v.2 in
-    let some_p = not_nil (others (others y)) p v.2 in
+    let ct = read_is_canonical (field y) cue.time v.0 in
+    let cm = read_is_canonical (field (others y)) cue.«module» v.1 in
+    let cp = read_is_canonical (others (others y)) cue.pin v.2 in
+    let some_p = not_nil (others (others y)) cue.pin v.2 in
     let some_m = others_not_nil (others y) some_p in
     let some_y = others_not_nil y some_m in
     let sr = at_comma r some_y in
     let sy = at_comma y some_m in
     let sm = at_comma (others y) some_p in
-    let all : r ≡ digits_of e ++ 44 ∷ (digits_of t ++ 44 ∷ (digits_of m ++ 44 ∷ digits_of p)) =
-    cc (sr, sy, sm, ce.0, ct.0, cm.0, cp.0) in (
+    let all
+    : r ≡ digits_of e ++ 44 ∷ (digits_of cue.time ++ 44 ∷ (digits_of cue.«module» ++ 44 ∷ digits_of cue.pin))
+    = cc (sr, sy, sm, ce.0, ct.0, cm.0, cp.0) in (
       all ∙ sym (call_fields e cue),
       record { transaction = ce.1; time = ct.1; «module» = cm.1; pin = cp.1 },
       others_not_nil r some_y,

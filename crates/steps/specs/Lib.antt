@@ -1,5 +1,4 @@
 -- The definitions that the contracts cite, and the statements of the theorems. Assumes nothing.
-pub mod Field
 pub mod Step
 pub mod StepText
 pub mod Theorems

@@ -1,91 +1,49 @@
 // A step line, read: its word first, then each field, scanned once.
-ghost use Rattle.std.specs.Prelude.{◌≡◌, length, drop};
+ghost use Rattle.std.specs.Prelude.{◌≡◌};
 ghost use Rattle.numbers.specs.Field.{field};
-ghost use Rattle.cue_lines.specs.CueLine.{others, fields_of};
 ghost use Rattle.numbers.specs.Number.{number_of};
-ghost use Rattle.steps.specs.Field.{field_at, FieldWithin};
-ghost use Rattle.steps.specs.Step.{numbered, cued, step_of};
+ghost use Rattle.cue_lines.specs.CueLine.{others, fields_of};
+ghost use Rattle.steps.specs.Step.{cued, step_of};
 
+use cue_lines::read_fields;
 use cues::CueNumbers;
 use lines::find_byte;
-use numbers::{Number, read_number};
+use numbers::{read_field, read_number};
 use step_words::{CueWord, NumberWord, Word, read_word};
 
-const COMMA: u8 = 44;
+const COMMA: u8 = b',';
 
 // A step is its word and its numbers. The first number is the transaction's, which the papers call the edit's, whatever
 // its range.
-#[derive(Drop)]
+#[derive(Clone, Copy, Debug, PartialEq, Eq)]
 pub enum Step {
     WithNumber(NumberWord, u64),
     WithCue(CueWord, u64, CueNumbers),
-    // Refusal 1: a malformed line or an unknown word.
-    Malformed,
 }
 
-// The number of a field that a comma ends, and the place behind the comma.
-#[derive(Drop)]
-enum Field {
-    Number(u64, usize),
-    Malformed,
-}
-
-// The number field that starts at a place of the line and that a comma ends. The second clause is the bound that a
-// caller's index needs.
-fn read_field(line: &[u8], at: usize) -> Field
-    ensures { (result ≡ field_at line.now at) × FieldWithin (length line.now) result }
+// The step of that word with the fields `e,t,m,p`.
+fn read_cue_step(word: CueWord, fields: &[u8]) -> Option<Step>
+    ensures { result ≡ cued word (number_of (field fields.now)) (fields_of (others fields.now)) }
 {
-    let numbers::Field::Number { value, end } = numbers::read_field(line, at) else {
-        return Field::Malformed;
-    };
-    if end < line.len() {
-        return Field::Number(value, end + 1);
+    let e = read_field(fields, 0)?;
+    if e.end == fields.len() {
+        return None;
     }
-    Field::Malformed
+    let cue = read_fields(&fields[e.end + 1..])?;
+    Some(Step::WithCue(word, e.value, cue))
 }
 
-// The step of that word with the number behind it.
-fn number_step(word: NumberWord, number: Number) -> Step
-    ensures { result ≡ numbered word number }
-{
-    let Number::Value(e) = number else {
-        return Step::Malformed;
-    };
-    Step::WithNumber(word, e)
-}
-
-// The step of that word with the fields `e,t,m,p`, which start at a place of the line.
-fn read_cue_step(word: CueWord, line: &[u8], at: usize) -> Step
-    ensures { result ≡ cued word (number_of (field (drop at line.now)))
-        (fields_of (others (drop at line.now))) }
-{
-    let Field::Number(e, time_at) = read_field(line, at) else {
-        return Step::Malformed;
-    };
-    let Field::Number(time, module_at) = read_field(line, time_at) else {
-        return Step::Malformed;
-    };
-    let Field::Number(module, pin_at) = read_field(line, module_at) else {
-        return Step::Malformed;
-    };
-    let Number::Value(pin) = read_number(&line[pin_at..]) else {
-        return Step::Malformed;
-    };
-    Step::WithCue(word, e, CueNumbers { time, module, pin })
-}
-
-// The step of a line, without its LF. Any bytes at all will do: what has not one of the ten forms is `Malformed`.
-pub fn read_step(line: &[u8]) -> Step
+// The step of a line, without its LF. Any bytes at all will do; none where the line has not one of the ten forms.
+pub fn read_step(line: &[u8]) -> Option<Step>
     ensures { result ≡ step_of line.now }
 {
     let end = find_byte(line, 0, COMMA);
     if end == line.len() {
-        return Step::Malformed;
+        return None;
     }
-    let from = end + 1;
-    match read_word(&line[..end]) {
-        Word::WithNumber(word) => number_step(word, read_number(&line[from..])),
-        Word::WithCue(word) => read_cue_step(word, line, from),
-        Word::Unknown => Step::Malformed,
+    let fields = &line[end + 1..];
+    match read_word(&line[..end])? {
+        Word::WithNumber(word) => Some(Step::WithNumber(word, read_number(fields)?)),
+        Word::WithCue(word) => read_cue_step(word, fields),
     }
 }

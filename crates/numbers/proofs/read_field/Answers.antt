@@ -1,33 +1,26 @@
 -- `numbers::read_field` meets its contract: the digits at the place fill the field exactly if it ends behind them.
 use Rattle.std.proofs.Common.{arith, sym, ◌∙◌}
-use Rattle.numbers.proofs.FieldLaws.{field_broken, field_comma, field_none, field_end, field_fits}
+use Rattle.numbers.proofs.FieldLaws.{field_broken, field_comma, field_none, field_end}
 use Rattle.numbers.proofs.read_field.Goals as goal
+use Rattle.numbers.proofs.read_field.Goals.{else-number-s-via-then-number-s+else-s-number-ne-COMMA, else-number-s-via-else-number-s}
 
-pub returns-in_default : goal.returns-in_default
-returns-in_default c =
-    let a = c.args in
-    (field_none a.s.now a.at (sym c.leading_number.ensures.0 ∙ c.in_default.is), tt)
+pub returns-in_err-number-clause-is_the_field : goal.returns-in_err-number-clause-is_the_field
+returns-in_err-number-clause-is_the_field c =
+    c.from_residual.ensures ∙ field_none c.args.s.now c.args.at (sym c.leading_number.ensures.is_leading ∙ c.in_err-number.was)
 
-pub returns-then-end-s : goal.returns-then-end-s
-returns-then-end-s c =
-    let a = c.args in
-    let e = c.in-Number.is in (
-      field_end a.s.now a.at _ _ (sym c.leading_number.ensures.0 ∙ e) c.if-end-s.true,
-      field_fits _ _ _ _ e c.leading_number.ensures.1,
-    )
+pub returns-then-s-number-ne-COMMA-clause-is_the_field : goal.returns-then-s-number-ne-COMMA-clause-is_the_field
+returns-then-s-number-ne-COMMA-clause-is_the_field c =
+    let q = sym c.leading_number.ensures.is_leading ∙ c.in_ok-number.was in
+    field_broken c.args.s.now c.args.at c.in_ok-number.number.value c.in_ok-number.number.end q c.if-number-s.true
+    c.if-s-number-ne-COMMA.true
 
-pub returns-then-s-end-eq-COMMA : goal.returns-then-s-end-eq-COMMA
-returns-then-s-end-eq-COMMA c =
-    let a = c.args in
-    let e = c.in-Number.is in
-    let f = field_fits _ _ _ _ e c.leading_number.ensures.1 in
-    let q = sym c.leading_number.ensures.0 ∙ e in
-    (field_comma a.s.now a.at _ _ q (omega (arith, f.0)) c.if-s-end-eq-COMMA.true, f)
-
-pub returns : goal.returns
-returns c =
-    let a = c.args in
-    let e = c.in-Number.is in
-    let f = field_fits _ _ _ _ e c.leading_number.ensures.1 in
-    let q = sym c.leading_number.ensures.0 ∙ e in
-    (field_broken a.s.now a.at _ _ q (omega (arith, f.0)) c.if-s-end-eq-COMMA.false, tt)
+pub returns-clause-is_the_field : goal.returns-clause-is_the_field
+returns-clause-is_the_field c =
+    let q = sym c.leading_number.ensures.is_leading ∙ c.in_ok-number.was in
+    elim c.else-number-s.branch [
+      | else-number-s-via-then-number-s+else-s-number-ne-COMMA w ↦
+          field_comma c.args.s.now c.args.at c.in_ok-number.number.value c.in_ok-number.number.end q w.if-number-s.true
+          w.if-s-number-ne-COMMA.false
+      | else-number-s-via-else-number-s w ↦
+          field_end c.args.s.now c.args.at c.in_ok-number.number.value c.in_ok-number.number.end q (omega (arith, c.in_ok-number.ensures.fits.0))
+    ]

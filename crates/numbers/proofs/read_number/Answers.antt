@@ -1,24 +1,18 @@
 -- `numbers::read_number` meets its contract: the digits at the start are the number exactly if they are all.
-use Rattle.std.proofs.Common.{sym, ◌∙◌}
-use Rattle.numbers.proofs.FieldLaws.{field_fits, whole, whole_none, whole_past}
+use Rattle.std.proofs.Common.{arith, sym, ◌∙◌}
+use Rattle.numbers.proofs.FieldLaws.{whole, whole_none, whole_past}
 use Rattle.numbers.proofs.read_number.Goals as goal
 
-pub returns-in_default : goal.returns-in_default
-returns-in_default c =
-    let s = c.args.field.now in
-    (whole_none s (sym c.leading_number.ensures.0 ∙ c.in_default.is), tt)
+pub returns-in_err-number-clause-is_the_number : goal.returns-in_err-number-clause-is_the_number
+returns-in_err-number-clause-is_the_number c =
+    c.from_residual.ensures ∙ whole_none c.args.field.now (sym c.leading_number.ensures.is_leading ∙ c.in_err-number.was)
 
-pub returns-then-end-field : goal.returns-then-end-field
-returns-then-end-field c =
-    let s = c.args.field.now in
-    let e = c.in-Number.is in (
-      whole s _ _ (sym c.leading_number.ensures.0 ∙ e) c.if-end-field.true,
-      (field_fits _ _ _ _ e c.leading_number.ensures.1).1,
-    )
+pub returns-then-number-field-clause-is_the_number : goal.returns-then-number-field-clause-is_the_number
+returns-then-number-field-clause-is_the_number c =
+    let q = sym c.leading_number.ensures.is_leading ∙ c.in_ok-number.was in
+    whole_past c.args.field.now c.in_ok-number.number.value c.in_ok-number.number.end q (omega arith) (λ e. omega arith)
 
-pub returns : goal.returns
-returns c =
-    let s = c.args.field.now in
-    let e = c.in-Number.is in
-    let f = field_fits _ _ _ _ e c.leading_number.ensures.1 in
-    (whole_past s _ _ (sym c.leading_number.ensures.0 ∙ e) f.0 c.if-end-field.false, tt)
+pub returns-clause-is_the_number : goal.returns-clause-is_the_number
+returns-clause-is_the_number c =
+    let q = sym c.leading_number.ensures.is_leading ∙ c.in_ok-number.was in
+    whole c.args.field.now c.in_ok-number.number.value c.in_ok-number.number.end q (omega (arith, c.in_ok-number.ensures.fits.0))

@@ -1,46 +1,26 @@
--- `steps::reading::read_cue_step` meets its contract: each field in turn ends it or leads to the next.
-use Rattle.std.proofs.Common.{ap, refl, sym, ◌∙◌}
-use Rattle.numbers.specs.Number.{number_of}
-use Rattle.steps.proofs.Steps.{bad_cue, bad_module, bad_pin, bad_time, bad_transaction, call_read, rest_is, three_read}
+-- `steps::reading::read_cue_step` meets its contract: the first field, and the cue behind its comma.
+use Rattle.std.proofs.Common.{sym, ◌∙◌}
+use Rattle.std.specs.Prelude.{None}
+use Rattle.steps.proofs.Steps.{bad_transaction, cue_behind, no_fields_behind}
 use Rattle.steps.proofs.reading.read_cue_step.Goals as goal
 
-pub returns-in_default : goal.returns-in_default
-returns-in_default c =
-    let a = c.args in
-    bad_transaction a.word a.line.now a.at (sym c.read_field.ensures.0 ∙ c.in_default.is)
+pub returns-in_err-e : goal.returns-in_err-e
+returns-in_err-e c =
+    c.from_residual.ensures
+    ∙ bad_transaction c.args.word c.args.fields.now (sym c.read_field.ensures.is_the_field ∙ c.in_err-e.was)
 
-pub returns-in_default-read_field : goal.returns-in_default-read_field
-returns-in_default-read_field c =
-    let a = c.args in
-    let s = a.line.now in
-    let q = sym c.read_field.ensures.0 ∙ c.in-Number.is in
-    bad_cue a.word s a.at _ _ q (bad_time s _ (sym c.read_field-2.ensures.0 ∙ c.in_default-read_field.is))
+pub returns-then-e-fields : goal.returns-then-e-fields
+returns-then-e-fields c =
+    let read = sym c.read_field.ensures.is_the_field ∙ c.in_ok-e.was in
+    no_fields_behind c.args.word c.args.fields.now _ _ read c.if-e-fields.true
 
-pub returns-in_default-read_field-2 : goal.returns-in_default-read_field-2
-returns-in_default-read_field-2 c =
-    let a = c.args in
-    let s = a.line.now in
-    let q = sym c.read_field.ensures.0 ∙ c.in-Number.is in
-    let t = sym c.read_field-2.ensures.0 ∙ c.in-Number-read_field.is in
-    bad_cue a.word s a.at _ _ q
-    (bad_module s _ _ _ t (sym c.read_field-3.ensures.0 ∙ c.in_default-read_field-2.is))
-
-pub returns-in_default-read_number : goal.returns-in_default-read_number
-returns-in_default-read_number c =
-    let a = c.args in
-    let s = a.line.now in
-    let q = sym c.read_field.ensures.0 ∙ c.in-Number.is in
-    let t = sym c.read_field-2.ensures.0 ∙ c.in-Number-read_field.is in
-    let m = sym c.read_field-3.ensures.0 ∙ c.in-Number-read_field-2.is in
-    let d = ap number_of (sym (rest_is s _)) ∙ (sym c.read_number.ensures.0 ∙ c.in_default-read_number.is) in
-    bad_cue a.word s a.at _ _ q (bad_pin s _ _ _ t _ _ m d)
+pub returns-in_err-cue : goal.returns-in_err-cue
+returns-in_err-cue c =
+    let read = sym c.read_field.ensures.is_the_field ∙ c.in_ok-e.was in
+    c.from_residual-in_err-cue.ensures
+    ∙ cue_behind c.args.word c.args.fields.now _ _ read None (sym c.in_err-cue.was ∙ c.read_fields.ensures)
 
 pub returns : goal.returns
 returns c =
-    let a = c.args in
-    let s = a.line.now in
-    let q = sym c.read_field.ensures.0 ∙ c.in-Number.is in
-    let t = sym c.read_field-2.ensures.0 ∙ c.in-Number-read_field.is in
-    let m = sym c.read_field-3.ensures.0 ∙ c.in-Number-read_field-2.is in
-    let d = ap number_of (sym (rest_is s _)) ∙ (sym c.read_number.ensures.0 ∙ c.in-Value.is) in
-    call_read a.word s a.at _ _ q _ _ _ _ (three_read s _ _ _ t _ _ m _ d) refl
+    let read = sym c.read_field.ensures.is_the_field ∙ c.in_ok-e.was in
+    cue_behind c.args.word c.args.fields.now _ _ read _ (sym c.in_ok-cue.was ∙ c.read_fields.ensures)

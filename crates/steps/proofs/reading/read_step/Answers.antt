@@ -1,11 +1,7 @@
 -- `steps::reading::read_step` meets its contract.
-use Rattle.std.proofs.Common.{arith, length, ◌≡◌}
-use Rattle.lines.specs.Lines.{up_to}
+use Rattle.std.proofs.Common.{arith}
 use Rattle.steps.proofs.Steps.{no_fields}
 use Rattle.steps.proofs.reading.read_step.Goals as goal
 
 pub returns-then-end-line : goal.returns-then-end-line
-returns-then-end-line c =
-    let l = c.args.line.now in
-    let e : up_to 44 l ≡ length l = omega arith in
-    no_fields l e
+returns-then-end-line c = no_fields c.args.line.now (omega arith)
