@@ -1,4 +1,3 @@
 -- Laws of the words and of the model, by the row that they decide.
 pub mod Entries
-pub mod Others
 pub mod Rows

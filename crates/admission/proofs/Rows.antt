@@ -3,7 +3,7 @@ use Prim.Native.Nat.{ℕ, ◌-◌, ◌≤◌, ◌<◌}
 use mathlib.Core.Path.{◌≡◌, refl, ap, sym, ◌∙◌}
 use mathlib.Core.Bool.{Bool, true, false, not, ◌&&◌}
 use mathlib.Core.List.{List, [], ◌∷◌}
-use mathlib.Core.Option.{Option, none, some}
+use Rattle.std.specs.Prelude.{Option, None, Some}
 use native.Mathlib.Omega.{arith}
 use borrow.Author.Tests.{le-leb, lt-leb}
 use lib.Dec.{leb}
@@ -70,18 +70,18 @@ room_of n log slots places =
     ∷ when (queue_full n places) QueueFull
     ∷ [])
 
-first_of_two : (b : Bool) (r : Refusal) → first_met (when b r ∷ none ∷ []) ≡ when b r
+first_of_two : (b : Bool) (r : Refusal) → first_met (when b r ∷ None ∷ []) ≡ when b r
 unfolding first_met
 first_of_two true r = refl
 first_of_two false r = refl
 
-last_of_two : (b : Bool) (r : Refusal) → first_met (none ∷ when b r ∷ []) ≡ when b r
+last_of_two : (b : Bool) (r : Refusal) → first_met (None ∷ when b r ∷ []) ≡ when b r
 unfolding first_met
 last_of_two true r = refl
 last_of_two false r = refl
 
 module _ (log : List Entry) (slots : List ℕ) (places : ℕ) where
-  full : (n : Entry) → 16 ≤ length log → some UndoLogFull ≡ room_of (some n) log slots places
+  full : (n : Entry) → 16 ≤ length log → Some UndoLogFull ≡ room_of (Some n) log slots places
   unfolding first_met
   full n h = rw (le-leb 16 (length log) h)
 
@@ -89,19 +89,19 @@ module _ (log : List Entry) (slots : List ℕ) (places : ℕ) where
     room : leb 16 (length log) ≡ false
     room = lt-leb 16 (length log) h
 
-    script_room : when (script_full (some (added k)) slots) ScriptFull ≡ room_of (some (added k)) log slots places
+    script_room : when (script_full (Some (added k)) slots) ScriptFull ≡ room_of (Some (added k)) log slots places
     unfolding first_met
-    script_room = rw room (sym (first_of_two (script_full (some (added k)) slots) ScriptFull))
+    script_room = rw room (sym (first_of_two (script_full (Some (added k)) slots) ScriptFull))
 
-    removed_room : none ≡ room_of (some (removed k)) log slots places
+    removed_room : None ≡ room_of (Some (removed k)) log slots places
     unfolding first_met
     removed_room = rw room
 
-    queue_room : when (leb 64 places) QueueFull ≡ room_of (some (pushed k)) log slots places
+    queue_room : when (leb 64 places) QueueFull ≡ room_of (Some (pushed k)) log slots places
     unfolding first_met
     queue_room = rw room (sym (last_of_two (leb 64 places) QueueFull))
 
-    taken_room : none ≡ room_of (some (taken k)) log slots places
+    taken_room : None ≡ room_of (Some (taken k)) log slots places
     unfolding first_met
     taken_room = rw room
 
@@ -113,7 +113,7 @@ module _ (s q : List ℕ) (ts : List (List ℕ)) (e : ℕ) (n : Option Entry) wh
   abbrev rows : Option Entry → Option Refusal
   rows x = first_met (room_rows d e x)
 
-  pub no_entry : n ≡ none → none ≡ rows n
+  pub no_entry : n ≡ None → None ≡ rows n
   unfolding first_met
   no_entry h = ap rows (sym h)
 
@@ -121,7 +121,7 @@ module _ (s q : List ℕ) (ts : List (List ℕ)) (e : ℕ) (n : Option Entry) wh
     log-length : m ≡ length (transaction d e).log
     log-length = is ∙ ap (λ (t : Transaction). length t.log) (sym (transaction_is s q ts e lo))
 
-    pub log_full_lem : (x : Entry) → n ≡ some x → 16 ≤ m → some UndoLogFull ≡ rows n
+    pub log_full_lem : (x : Entry) → n ≡ Some x → 16 ≤ m → Some UndoLogFull ≡ rows n
     log_full_lem x h g =
         full (transaction d e).log (reserved d) (queue_slots d) x (omega (arith, log-length)) ∙ ap rows (sym h)
 
@@ -129,46 +129,43 @@ module _ (s q : List ℕ) (ts : List (List ℕ)) (e : ℕ) (n : Option Entry) wh
       left : length (transaction d e).log < 16
       left = omega (arith, log-length)
 
-      pub adds : n ≡ some (added k) → {x : Option Refusal}
-          → x ≡ when (script_full (some (added k)) (reserved d)) ScriptFull
-          → x ≡ rows n
-      adds h p = p ∙ script_room (transaction d e).log (reserved d) (queue_slots d) left k ∙ ap rows (sym h)
+      pub adds : n ≡ Some (added k) → when (script_full (Some (added k)) (reserved d)) ScriptFull ≡ rows n
+      adds h = script_room (transaction d e).log (reserved d) (queue_slots d) left k ∙ ap rows (sym h)
 
-      pub removes : n ≡ some (removed k) → none ≡ rows n
+      pub removes : n ≡ Some (removed k) → None ≡ rows n
       removes h = removed_room (transaction d e).log (reserved d) (queue_slots d) left k ∙ ap rows (sym h)
 
-      pub pushes : n ≡ some (pushed k) → {x : Option Refusal} → x ≡ when (leb 64 (queue_slots d)) QueueFull → x ≡ rows n
-      pushes h p = p ∙ queue_room (transaction d e).log (reserved d) (queue_slots d) left k ∙ ap rows (sym h)
+      pub pushes : n ≡ Some (pushed k) → when (leb 64 (queue_slots d)) QueueFull ≡ rows n
+      pushes h = queue_room (transaction d e).log (reserved d) (queue_slots d) left k ∙ ap rows (sym h)
 
-      pub takes : n ≡ some (taken k) → none ≡ rows n
+      pub takes : n ≡ Some (taken k) → None ≡ rows n
       takes h = taken_room (transaction d e).log (reserved d) (queue_slots d) left k ∙ ap rows (sym h)
 
 -- rows 8 to 12 by the lock
 module _ (d : Store) (e : ℕ) (c : Call) (l : Lock) (is : l ≡ lock_of c) where
-  pub blocked : (f : ℕ) → some f ≡ blocker e l 1 d.transactions → some (Blocked f) ≡ first_met (call_rows d e c)
+  pub blocked : (f : ℕ) → Some f ≡ blocker e l 1 d.transactions → Some (Blocked f) ≡ first_met (call_rows d e c)
   unfolding first_met
   blocked f h =
-      let q : blocker e (lock_of c) 1 d.transactions ≡ some f =
+      let q : blocker e (lock_of c) 1 d.transactions ≡ Some f =
       sym (h ∙ ap (λ (x : Lock). blocker e x 1 d.transactions) is) in
       rw q
 
-  module _ (free : none ≡ blocker e l 1 d.transactions) where
-    nobody : blocker e (lock_of c) 1 d.transactions ≡ none
+  module _ (free : None ≡ blocker e l 1 d.transactions) where
+    nobody : blocker e (lock_of c) 1 d.transactions ≡ None
     nobody = sym (free ∙ ap (λ (x : Lock). blocker e x 1 d.transactions) is)
 
     with_lock_lem : (b : Bool) → b ≡ locks_full l (transaction d e).locks
         → locks_full (lock_of c) (transaction d e).locks ≡ b
     with_lock_lem b h = sym (h ∙ ap (λ (x : Lock). locks_full x (transaction d e).locks) is)
 
-    pub locks_full_lem : true ≡ locks_full l (transaction d e).locks → some LocksFull ≡ first_met (call_rows d e c)
+    pub locks_full_lem : true ≡ locks_full l (transaction d e).locks → Some LocksFull ≡ first_met (call_rows d e c)
     unfolding first_met
     locks_full_lem h = rw (nobody, with_lock_lem true h)
 
     pub locks_free : false ≡ locks_full l (transaction d e).locks
-        → {x : Option Refusal} (n : Option Entry) → x ≡ first_met (room_rows d e n) → n ≡ entry_of c (reply c d.state)
-        → x ≡ first_met (call_rows d e c)
+        → (n : Option Entry) → n ≡ entry_of c (reply c d.state) → first_met (room_rows d e n) ≡ first_met (call_rows d e c)
     unfolding first_met
-    locks_free h n p q = p ∙ ap (λ (y : Option Entry). first_met (room_rows d e y)) q ∙ rw (nobody, with_lock_lem false h)
+    locks_free h n q = ap (λ (y : Option Entry). first_met (room_rows d e y)) q ∙ rw (nobody, with_lock_lem false h)
 
 -- all rows by the number and the standing
 abbrev rows_with : Bool → Standing → Store → ℕ → Action → Option Refusal
@@ -190,7 +187,7 @@ by_standing v s d e a p q =
     ∙ ap (λ (x : Standing). rows_with v x d e a) q)
 
 pub out_of_range_lem : (d : Store) (e : ℕ) (a : Action) → valid e ≡ false
-    → some TransactionOutOfRange ≡ refusal_of d (request e a)
+    → Some TransactionOutOfRange ≡ refusal_of d (request e a)
 unfolding first_met
 out_of_range_lem d e a p = by_standing false (transaction d e).standing d e a p refl
 
@@ -223,19 +220,19 @@ module _ (d : Store) (e : ℕ) (a : Action) where
   of : (b : Action) → a ≡ b → first_met (open_rows d e b) ≡ first_met (open_rows d e a)
   of b h = ap (λ (x : Action). first_met (open_rows d e x)) (sym h)
 
-  pub open_begin : a ≡ begin → some AlreadyBegun ≡ first_met (open_rows d e a)
+  pub open_begin : a ≡ begin → Some AlreadyBegun ≡ first_met (open_rows d e a)
   unfolding first_met
   open_begin = of begin
 
-  pub open_commit : a ≡ commit → none ≡ first_met (open_rows d e a)
+  pub open_commit : a ≡ commit → None ≡ first_met (open_rows d e a)
   unfolding first_met
   open_commit = of commit
 
-  pub open_abort : a ≡ abort → none ≡ first_met (open_rows d e a)
+  pub open_abort : a ≡ abort → None ≡ first_met (open_rows d e a)
   unfolding first_met
   open_abort = of abort
 
-  pub open_roll_back : a ≡ roll_back → some NotAborting ≡ first_met (open_rows d e a)
+  pub open_roll_back : a ≡ roll_back → Some NotAborting ≡ first_met (open_rows d e a)
   unfolding first_met
   open_roll_back = of roll_back
 
@@ -244,13 +241,13 @@ module _ (d : Store) (e : ℕ) (a : Action) where
     unfolding first_met
     as_range r g = ap (λ (x : Bool). first_met (when x CueOutOfRange ∷ call_rows d e c)) (sym g) ∙ of (call b c) h
 
-    pub open_out : not b ≡ true → some CueOutOfRange ≡ first_met (open_rows d e a)
+    pub open_out : not b ≡ true → Some CueOutOfRange ≡ first_met (open_rows d e a)
     unfolding first_met
     open_out = as_range true
 
-    pub open_call : not b ≡ false → {x : Option Refusal} → x ≡ first_met (call_rows d e c) → x ≡ first_met (open_rows d e a)
+    pub open_call : not b ≡ false → first_met (call_rows d e c) ≡ first_met (open_rows d e a)
     unfolding first_met
-    open_call g p = p ∙ as_range false g
+    open_call = as_range false
 
 -- the number as the code tests it
 valid_in : (e : ℕ) → 1 ≤ e → e ≤ 8 → valid e ≡ true
@@ -277,12 +274,11 @@ module _ (s q : List ℕ) (ts : List (List ℕ)) (e : ℕ) (a : Action) (lo : 1 
       by_standing true m store e a (valid_in e lo hi)
       (ap (λ (t : Transaction). t.standing) (transaction_is s q ts e lo) ∙ sym h)
 
-  pub when_closed : Stands closed → {x : Option Refusal} → x ≡ closed_rows a → x ≡ refusal_of store (request e a)
-  when_closed h p = p ∙ closed_rows_lem store e a ∙ stands closed h
+  pub when_closed : Stands closed → closed_rows a ≡ refusal_of store (request e a)
+  when_closed h = closed_rows_lem store e a ∙ stands closed h
 
-  pub when_open : Stands «open» → {x : Option Refusal} → x ≡ first_met (open_rows store e a)
-      → x ≡ refusal_of store (request e a)
-  when_open h p = p ∙ open_rows_lem store e a ∙ stands «open» h
+  pub when_open : Stands «open» → first_met (open_rows store e a) ≡ refusal_of store (request e a)
+  when_open h = open_rows_lem store e a ∙ stands «open» h
 
-  pub when_aborting : Stands aborting → {x : Option Refusal} → x ≡ aborting_rows a → x ≡ refusal_of store (request e a)
-  when_aborting h p = p ∙ aborting_rows_lem store e a ∙ stands aborting h
+  pub when_aborting : Stands aborting → aborting_rows a ≡ refusal_of store (request e a)
+  when_aborting h = aborting_rows_lem store e a ∙ stands aborting h

@@ -1,7 +1,6 @@
--- What the code's answers stand for in the model, and the parts of the rows that the functions decide one after
--- another. Assumes nothing.
-use Rattle.std.specs.Prelude.{ℕ, not, if◌then◌else◌, List, [], ◌∷◌}
-use Rattle.std.proofs.Math.Option.{Option, none, some}
+-- What the model's first row means for a request, and the parts of the rows that the functions decide one after another.
+-- Assumes nothing.
+use Rattle.std.specs.Prelude.{ℕ, not, if◌then◌else◌, List, [], ◌∷◌, Result, Ok, Err, Option, None, Some}
 use Rattle.refusals.specs.declared.Refusal.{Refusal}
 use Rattle.refusals.specs.declared.Refusal.TheVariants.{
   AlreadyBegun,
@@ -17,25 +16,20 @@ use Rattle.boosting.specs.Undo.{Entry}
 use Rattle.boosting.specs.Store.{Store, transaction}
 use Rattle.boosting.specs.Room.{reserved, queue_slots, log_full, script_full, queue_full}
 use Rattle.boosting.specs.Rows.{Action, is_begin, is_roll_back, cue_in_range, when, lock_rows}
-use Rattle.admission.specs.declared.Admission.{Admission}
-use Rattle.admission.specs.declared.Admission.TheVariants.{Accepted, Refused}
 
--- the refusal, none where the request is accepted
-abbrev pub model_admission : Admission → Option Refusal
-model_admission Accepted = none
-model_admission (Refused r) = some r
+-- accepted where no row turns it away
+abbrev pub admitted : Option Refusal → Result Unit Refusal
+admitted None = Ok tt
+admitted (Some r) = Err r
 
 -- the rows of a closed and of an aborting transaction
 abbrev pub closed_rows : Action → Option Refusal
-closed_rows a = if is_begin a then none else some NotBegun
+closed_rows a = if is_begin a then None else Some NotBegun
 
 abbrev pub aborting_rows : Action → Option Refusal
-aborting_rows a = if is_begin a then some AlreadyBegun else if is_roll_back a then none else some Aborting
+aborting_rows a = if is_begin a then Some AlreadyBegun else if is_roll_back a then None else Some Aborting
 
--- those of an open one for a step that is no call, and for any
-abbrev pub open_step_rows : Action → Option Refusal
-open_step_rows a = if is_begin a then some AlreadyBegun else if is_roll_back a then some NotAborting else none
-
+-- those of an open one
 abbrev pub open_rows : Store → ℕ → Action → List (Option Refusal)
 open_rows d e a =
     when (is_begin a) AlreadyBegun

@@ -12,9 +12,7 @@ use Rattle.lines.specs.Lines.{up_to}
 use Rattle.lines.proofs.Laws.{up_append, none_append}
 use Rattle.digits.specs.Digits.{digits_at, digits_of}
 use Rattle.numbers.specs.Number.{value_from}
-use Rattle.numbers.specs.declared.Number.{Number}
-use Rattle.numbers.specs.declared.Number.TheVariants.{Value}
-use Rattle.numbers.specs.declared.Number.TheVariants.{Malformed as NoNumber}
+use Rattle.std.specs.Prelude.{Option, Some, None}
 use Rattle.digits.proofs.Laws.{none_digits}
 use Rattle.numbers.proofs.Theorems.{every_number}
 use Rattle.records.specs.Record.{field_text, record_text}
@@ -44,9 +42,9 @@ use Rattle.answers.specs.Answer.{row_text, refusal_text, answer_text}
 use Rattle.answers.specs.Theorems.{Fits, AnswerFits}
 
 -- ---- a number, and what stands behind the byte that ends it
-abbrev value_of : Number → ℕ
-value_of (Value n) = n
-value_of NoNumber = 0
+abbrev value_of : Option ℕ → ℕ
+value_of (Some n) = n
+value_of None = 0
 
 abbrev number_to : ℕ → List ℕ → ℕ
 number_to sep l = value_of (value_from 0 (take (up_to sep l) l))

@@ -6,13 +6,12 @@ use Prim.Native.Nat.{ℕ, suc, ◌+◌, ◌≤◌, ◌<◌}
 use native.Mathlib.Nat.{add-zero}
 use native.Mathlib.Omega.{arith}
 use lib.Dec.{leb}
-use native.Mathlib.Numerals.{add-one}
-use lib.ListN.{length, get_or, set, take}
-use lib.Seq.{sets, sets-eq, take-suc, length-take-le}
+use lib.ListN.{length, set}
+use lib.Seq.{sets, sets-eq}
 use borrow.Author.Tests.{le-leb, lt-leb, leb-true, leb-false, not-false}
+use Rattle.std.specs.Prelude.{Result, Ok, Err}
+use Rattle.refusals.specs.declared.Refusal.{Refusal}
 use Rattle.refusals.specs.declared.Refusal.TheVariants.{BufferTooShort}
-use Rattle.buffers.specs.declared.Written.{Written}
-use Rattle.buffers.specs.declared.Written.TheVariants.{Upto, Refused}
 use Rattle.buffers.specs.Written.{written_at}
 
 pub sets-append : (vs ws l : List ℕ) (i : ℕ) → sets l i (vs ++ ws) ≡ sets (sets l i vs) (i + length vs) ws
@@ -21,27 +20,15 @@ sets-append (v ∷ vs) ws l i =
     let e : suc i + length vs ≡ i + suc (length vs) = omega arith in
     sets-append vs ws (set l i v) (suc i) ∙ ap (λ (j : ℕ). sets (sets (set l i v) (suc i) vs) j ws) e
 
--- one byte more behind bytes that stand already
-pub sets_snoc : (vs l : List ℕ) (i v : ℕ) → set (sets l i vs) (i + length vs) v ≡ sets l i (vs ++ (v ∷ []))
-sets_snoc vs l i v = sym (sets-append vs (v ∷ []) l i)
-
--- the first i bytes stand; one more
-pub copied_more : (buf mid bytes : List ℕ) (at i : ℕ) → i < length bytes → mid ≡ sets buf at (take i bytes)
-    → set mid (at + i) (get_or bytes i 0) ≡ sets buf at (take (i + 1) bytes)
-copied_more buf mid bytes at i h e =
-    let n : length (take i bytes) ≡ i = length-take-le i bytes (omega arith) in
-    let s = sets_snoc (take i bytes) buf at (get_or bytes i 0) in
-    rw (e, add-one, take-suc bytes i 0 h) (rw n at s)
-
 -- the bytes fit: with what the code ensures of its place and its stores, the answer is the definition's
 pub written : (buf mid bytes : List ℕ) (at end : ℕ) → at + length bytes ≤ length buf → end ≡ at + length bytes
-    → mid ≡ sets buf at bytes → (Upto end, mid) ≡ written_at buf at bytes
+    → mid ≡ sets buf at bytes → (Ok end, mid) ≡ written_at buf at bytes
 unfolding written_at
 written buf mid bytes at end h e m = rw (le-leb _ _ h, e, m, sets-eq bytes buf at h)
 
 -- they do not fit
 pub too_short : (buf bytes : List ℕ) (at : ℕ) → length buf < at + length bytes
-    → (Refused BufferTooShort, buf) ≡ written_at buf at bytes
+    → (Err BufferTooShort, buf) ≡ written_at buf at bytes
 unfolding written_at
 too_short buf bytes at h = rw (lt-leb _ _ h)
 
@@ -57,9 +44,9 @@ pub has_room : (b : Bool) (n all : ℕ) → b ≡ leb n all → not b ≡ false 
 has_room b n all e f = leb-true n all (sym e ∙ not-false b f)
 
 -- a callee wrote where the bytes fit: what its answer was, and what it left
-pub written_back : (r : Written) (buf mid bytes : List ℕ) (at : ℕ) → at + length bytes ≤ length buf
-    → (r, mid) ≡ written_at buf at bytes → (r ≡ Upto (at + length bytes)) × (mid ≡ sets buf at bytes)
+pub written_back : (r : Result ℕ Refusal) (buf mid bytes : List ℕ) (at : ℕ) → at + length bytes ≤ length buf
+    → (r, mid) ≡ written_at buf at bytes → (r ≡ Ok (at + length bytes)) × (mid ≡ sets buf at bytes)
 written_back r buf mid bytes at h e =
-    let w : ◌≡◌ {A = Written × List ℕ} (r, mid) (Upto (at + length bytes), sets buf at bytes)
+    let w : ◌≡◌ {A = Result ℕ Refusal × List ℕ} (r, mid) (Ok (at + length bytes), sets buf at bytes)
     = e ∙ sym (written buf (sets buf at bytes) bytes at (at + length bytes) h refl refl) in
     (ap (λ p. p.0) w, ap (λ p. p.1) w)

@@ -6,18 +6,10 @@
 // No public function has a `requires`.
 #![tactic(auto)]
 
-ghost use Rattle.std.specs.Prelude.{◌≡◌, ◌+◌, ◌≤◌, nat_le, length};
-ghost use Rattle.std.proofs.lemmas.List.Edits.{sets};
+ghost use Rattle.std.specs.Prelude.{◌≡◌, ◌+◌, ◌++◌, nat_le, length};
 ghost use Rattle.buffers.specs.Written.{written_at};
 
 use refusals::Refusal;
-
-#[derive(Drop)]
-pub enum Written {
-    // The place behind the last byte written.
-    Upto(usize),
-    Refused(Refusal),
-}
 
 // Whether `count` bytes from the place `at` on lie within `room`. No sum here can wrap.
 pub fn fits(room: usize, at: usize, count: usize) -> bool
@@ -32,26 +24,26 @@ pub fn fits(room: usize, at: usize, count: usize) -> bool
     true
 }
 
-// Copies the bytes to a place where they fit, and answers the place behind them.
-fn put_bytes(buf: &mut [u8], at: usize, bytes: &[u8]) -> usize
-    requires { at + length bytes.now ≤ length buf.old }
-    ensures { (result ≡ at + length bytes.now)
-        × (buf.new ≡ sets buf.old at bytes.now) }
-{
-    let mut i = 0;
-    while i < bytes.len() {
-        buf[at + i] = bytes[i];
-        i += 1;
-    }
-    at + i
-}
-
-pub fn write_bytes(buf: &mut [u8], at: usize, bytes: &[u8]) -> Written
+// Writes the bytes from a place on, if they fit there, and answers the place behind them.
+#[tactic(auto, unfolding(crate::specs::Written::written_at))]
+pub fn write_bytes(buf: &mut [u8], at: usize, bytes: &[u8]) -> Result<usize, Refusal>
     ensures { (result, buf.new) ≡ written_at buf.old at bytes.now }
 {
-    if fits(buf.len(), at, bytes.len()) {
-        let end = put_bytes(buf, at, bytes);
-        return Written::Upto(end);
+    if !fits(buf.len(), at, bytes.len()) {
+        return Err(Refusal::BufferTooShort);
     }
-    Written::Refused(Refusal::BufferTooShort)
+    let end = at + bytes.len();
+    buf[at..end].copy_from_slice(bytes);
+    Ok(end)
+}
+
+// Writes two stretches of bytes, one behind the other, if both fit.
+pub fn write_both(buf: &mut [u8], at: usize, first: &[u8], second: &[u8]) -> Result<usize, Refusal>
+    ensures { (result, buf.new) ≡ written_at buf.old at (first.now ++ second.now) }
+{
+    if fits(buf.len(), at, first.len() + second.len()) {
+        let middle = write_bytes(buf, at, first)?;
+        return write_bytes(buf, middle, second);
+    }
+    Err(Refusal::BufferTooShort)
 }

@@ -1,5 +1,4 @@
-// The checksum of a text, which document 01 calls its stamp. Sums that run past the top of a u32
-// start again from zero.
+// The checksum of a text, which users know as its stamp. Sums that run past the top of a u32 start again from zero.
 #![tactic(auto)]
 
 mod weights; // weights.rt: the weight of each byte
@@ -21,17 +20,15 @@ pub fn checksum_from(before: u32, text: &[u8]) -> u32
 {
     let weights = weights::table();
     let mut sum = before;
-    let mut i = 0;
-    while i < text.len() {
-        sum = std::num::wrapping_add_u32(times_31(sum), weights[text[i] as usize]);
-        i += 1;
+    for byte in text {
+        sum = times_31(sum).wrapping_add(weights[usize::from(*byte)]);
     }
     sum
 }
 
-// 31 times x, modulo 2^32. The product is taken at 64 bits, where it cannot overflow.
+// 31 times x, modulo 2^32.
 fn times_31(x: u32) -> u32
     ensures { result ≡ 31 * x % 2 ^ 32 }
 {
-    ((x as u64) * 31 % 4294967296) as u32
+    x.wrapping_mul(31)
 }

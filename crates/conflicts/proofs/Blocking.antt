@@ -1,19 +1,20 @@
 -- The search for the blocker, transaction by transaction. Assumes nothing.
-use Prim.Native.Nat.{ℕ, ◌+◌, ◌-◌, ◌≤◌, ◌<◌}
-use mathlib.Core.Path.{◌≡◌, refl, sym, ap, ◌∙◌}
-use mathlib.Core.Bool.{Bool, true, false, cond}
+use Prim.Native.Nat.{ℕ, ◌+◌, ◌≤◌, ◌<◌}
+use mathlib.Core.Path.{◌≡◌, refl, ◌∙◌}
+use mathlib.Core.Bool.{Bool, true, false, cond, not, ◌||◌}
 use mathlib.Core.List.{List, [], map}
-use mathlib.Core.Option.{Option, none, some}
+use Rattle.std.specs.Prelude.{Option, None, Some}
 use native.Mathlib.Numerals.{add-one}
-use native.Mathlib.Omega.{arith}
-use borrow.Author.Tests.{eq-eqb, ne_eqb}
 use lib.Dec.{eqb}
-use lib.ListN.{length, take, drop, get_or}
+use borrow.Author.Tests.{eq-eqb, ne_eqb}
+use lib.ListN.{length, take, drop, get_or, drop_of_length-le}
+use lib.Seq.{drop-cons}
 use Rattle.tables.specs.Table.{member_of}
-use Rattle.boosting.specs.Locks.{Lock, cue_lock, conflicts}
+use Rattle.boosting.specs.Locks.{Lock, cue_lock, push_mode, look_mode, take_mode, conflicts}
 use Rattle.boosting.specs.Store.{blocker}
 use Rattle.transactions.specs.View.{transaction_of}
 use Rattle.store_words.proofs.Places.{next, over}
+use Rattle.conflicts.specs.Modes.{is_mode, opposed_modes, any_held}
 
 -- the blocker from place i on, which is number i + 1
 abbrev pub blocker_from : List (List ℕ) → ℕ → Lock → ℕ → Option ℕ
@@ -25,7 +26,7 @@ module _ (ts : List (List ℕ)) (e : ℕ) (l : Lock) (i : ℕ) where
 
   step : i < length ts
       → from i ≡ cond (eqb (i + 1) e) (from (i + 1))
-      (cond (conflicts l (transaction_of (get_or ts i [])).locks) (some (i + 1)) (from (i + 1)))
+      (cond (conflicts l (transaction_of (get_or ts i [])).locks) (Some (i + 1)) (from (i + 1)))
   unfolding blocker
   step h = rw (next ts i h, add-one (i + 1))
 
@@ -37,22 +38,10 @@ module _ (ts : List (List ℕ)) (e : ℕ) (l : Lock) (i : ℕ) where
   no_conflict h q c = step h ∙ rw (ne_eqb (i + 1) e q, c)
 
   pub conflict : i < length ts → (i + 1 ≡ e → ⊥) → conflicts l (transaction_of (get_or ts i [])).locks ≡ true
-      → from i ≡ some (i + 1)
+      → from i ≡ Some (i + 1)
   conflict h q c = step h ∙ rw (ne_eqb (i + 1) e q, c)
 
-  -- whoever is there, without a conflict it is passed over
-  pub passed : i < length ts → conflicts l (transaction_of (get_or ts i [])).locks ≡ false → from i ≡ from (i + 1)
-  passed h c = step h ∙ rw c (either (eqb (i + 1) e))
-    where
-      either : (b : Bool) → cond b (from (i + 1)) (from (i + 1)) ≡ from (i + 1)
-      either true = refl
-      either false = refl
-
-  -- one place further back
-  pub back : (x : Option ℕ) → 0 < i → from (i - 1) ≡ from (i - 1 + 1) → x ≡ from i → x ≡ from (i - 1)
-  back x h q p = let e : i - 1 + 1 ≡ i = omega arith in p ∙ sym (q ∙ ap from e)
-
-  pub nobody : length ts ≤ i → from i ≡ none
+  pub nobody : length ts ≤ i → from i ≡ None
   unfolding blocker
   nobody h = rw (over ts i h)
 
@@ -62,12 +51,48 @@ pub cue_conflict : (key : ℕ) (w : List ℕ) (b : Bool) → member_of key (take
 unfolding conflicts
 cue_conflict key w b m = m
 
--- who was found, by number; 0 is nobody
-abbrev pub shown : ℕ → Option ℕ
-shown n = cond (eqb n 0) none (some n)
+-- a search through the keys of cue locks from the front: those still to be looked at decide
+module _ (key : ℕ) (held : List ℕ) (j : ℕ) where
+  pub lock_found : j < length held → get_or held j 0 ≡ key → member_of key (drop j held) ≡ true
+  unfolding member_of
+  lock_found h e = rw (drop-cons held j 0 h, eq-eqb (get_or held j 0) key e)
 
-pub shows_nobody : (n : ℕ) → n ≡ 0 → none ≡ shown n
-shows_nobody n e = rw (eq-eqb n 0 e)
+  pub lock_passed : j < length held → (get_or held j 0 ≡ key → ⊥)
+      → member_of key (drop (j + 1) held) ≡ member_of key (drop j held)
+  unfolding member_of
+  lock_passed h e = rw (drop-cons held j 0 h, ne_eqb (get_or held j 0) key e, add-one j)
 
-pub shows_some : (n : ℕ) → (n ≡ 0 → ⊥) → some n ≡ shown n
-shows_some n h = rw (ne_eqb n 0 h)
+  pub locks_over : length held ≤ j → member_of key (drop j held) ≡ false
+  unfolding member_of
+  locks_over h = rw (drop_of_length-le held {i = j} h)
+
+-- the same through the words of modes
+module _ (w modes : List ℕ) (j : ℕ) where
+  pub mode_found : j < length modes → (get_or w (get_or modes j 0) 0 ≡ 0 → ⊥) → any_held w (drop j modes) ≡ true
+  mode_found h e = rw (drop-cons modes j 0 h, ne_eqb (get_or w (get_or modes j 0) 0) 0 e)
+
+  pub mode_passed : j < length modes → get_or w (get_or modes j 0) 0 ≡ 0
+      → any_held w (drop (j + 1) modes) ≡ any_held w (drop j modes)
+  mode_passed h e = rw (drop-cons modes j 0 h, eq-eqb (get_or w (get_or modes j 0) 0) 0 e, add-one j)
+
+  pub modes_over : length modes ≤ j → any_held w (drop j modes) ≡ false
+  modes_over h = rw (drop_of_length-le modes {i = j} h)
+
+-- what the opposed modes say is the conflict
+or_false : (a : Bool) → (a || false) ≡ a
+or_false true = refl
+or_false false = refl
+
+pub modes_conflict : (m : Lock) (w : List ℕ) → is_mode m ≡ true
+    → conflicts m (transaction_of w).locks ≡ any_held w (opposed_modes m)
+unfolding conflicts
+modes_conflict (cue_lock k) w h = cc
+modes_conflict push_mode w h = rw (or_false (not (eqb (get_or w 59 0) 0))) refl
+modes_conflict look_mode w h = rw (or_false (not (eqb (get_or w 59 0) 0))) refl
+modes_conflict take_mode w h = rw (or_false (not (eqb (get_or w 59 0) 0))) refl
+
+pub mode_unless_cue : (m : Lock) → ((k : ℕ) → m ≡ cue_lock k → ⊥) → is_mode m ≡ true
+mode_unless_cue (cue_lock k) h = absurd (h k refl)
+mode_unless_cue push_mode h = refl
+mode_unless_cue look_mode h = refl
+mode_unless_cue take_mode h = refl

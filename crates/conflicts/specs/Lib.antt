@@ -1,2 +1,2 @@
--- What the code's answers mean.
-pub mod Code
+-- The modes of the queue by their words.
+pub mod Modes

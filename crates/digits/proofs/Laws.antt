@@ -1,18 +1,14 @@
--- Laws of the digits of a number: which they are, how many, which comes first, and what storing them one by one leaves.
--- Assumes nothing.
+-- Laws of the digits of a number: which they are, how many, and which comes first. Assumes nothing.
 use mathlib.Core.Path.{◌≡◌, refl, sym, ap, ◌∙◌}
 use mathlib.Core.Bool.{Bool, true, false, cond}
 use mathlib.Core.List.{List, [], ◌∷◌, ◌++◌}
 use mathlib.Core.Logic.{⊎_elim}
-use Prim.Native.Nat.{ℕ, zero, suc, ◌+◌, ◌-◌, ◌/◌, ◌%◌, ◌^◌, ◌≤◌, ◌<◌}
+use Prim.Native.Nat.{ℕ, zero, suc, ◌+◌, ◌/◌, ◌%◌, ◌^◌, ◌≤◌, ◌<◌}
 use native.Mathlib.Nat.{pow-suc, mod-eq_of_lt}
-use native.Mathlib.Numerals.{sub-one}
 use native.Mathlib.Omega.{arith}
 use lib.Dec.{ltb}
-use lib.ListN.{length, get_or, set, length-append, get_or-append}
-use lib.Seq.{sets}
+use lib.ListN.{length, get_or, length-append, get_or-append}
 use borrow.Author.Tests.{lt-ltb, le-ltb}
-use Rattle.buffers.proofs.Laws.{sets-append}
 use Rattle.lines.specs.Lines.{up_to}
 use Rattle.lines.proofs.Laws.{lt_or_ge, none_one, none_append}
 use Rattle.digits.specs.Digits.{digits_at, digits_of}
@@ -31,13 +27,6 @@ pub digits_step : (k n : ℕ) → 10 ≤ n → digits_at (suc k) n ≡ digits_at
 unfolding digits_at
 digits_step k n h = simp (le-ltb n 10 h)
 
-pub digits_more : (k n : ℕ) → (k ≡ 0 → ⊥) → 10 ≤ n → digits_at k n ≡ digits_at (k - 1) (n / 10) ++ ((48 + n % 10) ∷ [])
-digits_more zero n f h = absurd (f refl)
-digits_more (suc k) n f h = rw sub-one (digits_step k n h)
-
-pub more_length : (k n : ℕ) → (k ≡ 0 → ⊥) → 10 ≤ n → length (digits_at k n) ≡ length (digits_at (k - 1) (n / 10)) + 1
-more_length k n f h = ap length (digits_more k n f h) ∙ length-append (digits_at (k - 1) (n / 10)) ((48 + n % 10) ∷ [])
-
 pub digits_pos : (k n : ℕ) → 0 < length (digits_at k n)
 unfolding digits_at
 digits_pos zero n = omega arith
@@ -46,19 +35,6 @@ digits_pos (suc k) n = pos (ltb n 10) (digits_at k (n / 10))
     pos : (t : Bool) (l : List ℕ) → 0 < length (cond t ((48 + n) ∷ []) (l ++ ((48 + n % 10) ∷ [])))
     pos true l = omega arith
     pos false l = omega (arith, length-append l ((48 + n % 10) ∷ []))
-
--- one byte stored, where the digits are that byte
-pub one_stored : (buf ds : List ℕ) (at b : ℕ) → ds ≡ b ∷ []
-    → (at + 1 ≡ at + length ds) × (set buf at b ≡ sets buf at ds)
-one_stored buf ds at b e = (rw e, rw e)
-
--- what the callee ensures of its result p and of the buffer it leaves, mid, are premises: no path into `c` is rewritten
-pub more_stored : (buf mid : List ℕ) (at k n p : ℕ) → (k ≡ 0 → ⊥) → 10 ≤ n
-    → p ≡ at + length (digits_at (k - 1) (n / 10)) → mid ≡ sets buf at (digits_at (k - 1) (n / 10))
-    → set mid p (48 + n % 10) ≡ sets buf at (digits_at k n)
-more_stored buf mid at k n p f h ep em =
-    rw (ep, em, digits_more k n f h)
-    (sym (sets-append (digits_at (k - 1) (n / 10)) ((48 + n % 10) ∷ []) buf at))
 
 -- digits hold no byte below 48
 digit_one : (sep d : ℕ) → sep < 48 → up_to sep ((48 + d) ∷ []) ≡ 1

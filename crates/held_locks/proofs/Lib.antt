@@ -2,3 +2,4 @@
 pub mod Sieve
 pub mod Modes
 pub mod Full
+pub mod Members

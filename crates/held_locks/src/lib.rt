@@ -23,23 +23,20 @@ pub fn may_hold(t: &[u64; 64], key: u64) -> bool
     (t[SIEVE] >> sieve_bit(key)) % 2 == 1
 }
 
+// The keys of the cue locks.
+pub fn cue_locks(t: &[u64; 64]) -> &[u64]
+    requires { WordsFit t.now }
+    ensures { result.now ≡ (transaction_of t.now).locks.cues }
+{
+    &t[..t[LOCK_COUNT] as usize]
+}
+
 // Whether a cue lock with this key is held.
 pub fn holds_cue(t: &[u64; 64], key: u64) -> bool
     requires { WordsFit t.now }
     ensures { result ≡ member_of key (transaction_of t.now).locks.cues }
 {
-    if !may_hold(t, key) {
-        return false;
-    }
-    let n = t[LOCK_COUNT] as usize;
-    let mut j = 0;
-    while j < n {
-        if t[j] == key {
-            return true;
-        }
-        j += 1;
-    }
-    false
+    may_hold(t, key) && cue_locks(t).contains(&key)
 }
 
 // Whether one of two modes is held, by their words and without a branch.

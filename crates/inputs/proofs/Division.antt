@@ -5,11 +5,18 @@ use mathlib.Core.List.{List, [], ◌∷◌, ◌++◌}
 use mathlib.Core.Logic.{◌⊎◌, inl, inr}
 use Prim.Native.Nat.{ℕ, suc, ◌+◌, ◌-◌, ◌≤◌, ◌<◌, min}
 use native.Mathlib.Omega.{arith}
-use lib.ListN.{length, take, drop, drop_of_length-le}
+use lib.ListN.{length, take, drop, drop_of_length-le, length-drop}
 use lib.Seq.{take_all, take-append-add, drop-append-add}
+use Rattle.std.specs.Prelude.{Option, Some, None}
+use Rattle.std.specs.Borrow.{Bor}
 use Rattle.lines.specs.Ascii.{bytes}
+use Rattle.lines.specs.declared.Line.{Line}
+use Rattle.lines.specs.Line.{line_at}
+use Rattle.line_reader.specs.declared.LineReader.{LineReader}
+use Rattle.line_reader.specs.Reader.{place_after, Taken}
+use Rattle.line_reader.proofs.Left.{line_read, none_read, line_within}
 use Rattle.lines.specs.Lines.{up_to, lines_of}
-use Rattle.lines.proofs.Laws.{lines_next, lines_end, lines_append, lt_or_ge}
+use Rattle.lines.proofs.Laws.{up_le, lines_next, lines_end, lines_append, lt_or_ge}
 use Rattle.same_bytes.proofs.Laws.{same_true}
 use Rattle.inputs.specs.Division.{is_steps, steps_place, start_text, step_list}
 use Rattle.inputs.specs.Theorems.{before, behind, DividedAtSteps}
@@ -40,11 +47,11 @@ module _ (s : List ℕ) (at end : ℕ) (h : at < length s) (e : end ≡ at + up_
       let d : end - at ≡ up_to 10 (drop at s) = omega arith in
       ap steps_place (lines_next s at h) ∙ steps_here _ _ (rw d at t)
 
-  pub found : is_steps (take (end - at) (drop at s)) ≡ true
+  found : is_steps (take (end - at) (drop at s)) ≡ true
       → at + steps_place (lines_of (drop at s)) ≡ steps_place (lines_of s) → at ≡ min (steps_place (lines_of s)) (length s)
   found t i = omega (arith, here t)
 
-  pub later : is_steps (take (end - at) (drop at s)) ≡ false
+  later : is_steps (take (end - at) (drop at s)) ≡ false
       → end + 1 + steps_place (lines_of (drop (end + 1) s)) ≡ at + steps_place (lines_of (drop at s))
   later t =
       let u = up_to 10 (drop at s) in
@@ -58,10 +65,47 @@ module _ (s : List ℕ) (at end : ℕ) (h : at < length s) (e : end ≡ at + up_
       ap (λ (x : ℕ). steps_place (lines_of (drop (x + 1) s))) e in
       omega arith
 
-pub none_found : (s : List ℕ) (at : ℕ) → length s ≤ at → at + steps_place (lines_of (drop at s)) ≡ steps_place (lines_of s)
+none_found : (s : List ℕ) (at : ℕ) → length s ≤ at → at + steps_place (lines_of (drop at s)) ≡ steps_place (lines_of s)
     → length s ≡ min (steps_place (lines_of s)) (length s)
 unfolding steps_place
 none_found s at h i = let z : steps_place (lines_of (drop at s)) ≡ 0 = ap steps_place (lines_end s at h) in omega arith
+
+-- ---- the search, as a reader over the text goes on
+module _ (s : List ℕ) (before after : LineReader) (read : Option Line) (t : Taken before after read)
+    (same : before.text.now ≡ s) where
+  place : (line : Line) → read ≡ Some line → line_at s before.at ≡ Some line
+  place line e = rw (← same) (sym t.is ∙ e)
+
+  abbrev line_bytes : Line → List ℕ
+  line_bytes line = take (line.end - line.start) (drop line.start s)
+
+  pub line_fits : (line : Line) → read ≡ Some line → (line.start ≤ line.end) × (line.end ≤ length s)
+  line_fits line e = line_within s before.at line (place line e)
+
+  pub found_line : (line : Line) → read ≡ Some line → is_steps (line_bytes line) ≡ true
+      → before.at + steps_place (lines_of (drop before.at s)) ≡ steps_place (lines_of s)
+      → line.start ≡ min (steps_place (lines_of s)) (length s)
+  found_line line e =
+      let r = line_read s before.at line (place line e) in
+      rw (← r.1) (λ x i. found s before.at (before.at + up_to 10 (drop before.at s)) r.0 refl x i)
+
+  pub later_line : (line : Line) → read ≡ Some line → is_steps (line_bytes line) ≡ false
+      → (after.text.now ≡ s) × (before.at < after.at) × (after.at ≤ length s + 1)
+      × (after.at + steps_place (lines_of (drop after.at s)) ≡ before.at + steps_place (lines_of (drop before.at s)))
+  later_line line e x =
+      let r = line_read s before.at line (place line e) in
+      let end = before.at + up_to 10 (drop before.at s) in
+      let next : after.at ≡ end + 1 =
+      t.place ∙ (ap (λ (q : Option Line). place_after q before.at) e ∙ ap (λ (q : Line). q.next) (sym r.1)) in (
+        ap (λ (q : Bor (List ℕ)). q.now) t.text ∙ same,
+        rw next (omega arith),
+        rw next (omega (arith, r.0, up_le 10 (drop before.at s), length-drop before.at s)),
+        rw next (later s before.at end r.0 refl (rw (← r.1) at x)),
+      )
+
+  pub no_line : read ≡ None → before.at + steps_place (lines_of (drop before.at s)) ≡ steps_place (lines_of s)
+      → length s ≡ min (steps_place (lines_of s)) (length s)
+  no_line e i = none_found s before.at (none_read s before.at (rw (← same) (sym t.is ∙ e))) i
 
 -- ---- the two texts, as the code cuts them out
 pub start_part : (s : List ℕ) (at : ℕ) → at ≡ min (steps_place (lines_of s)) (length s) → take at s ≡ start_text s

@@ -8,20 +8,18 @@ ghost use Rattle.lines.specs.Lines.{lines_of};
 ghost use Rattle.inputs.specs.Division.{steps_place};
 
 use buffers::fits;
-use lines::{LF, find_byte};
+use line_reader::LineReader;
 use same_bytes::same_bytes;
 
 // Where the first line `steps` begins; the end of the input where there is none.
 pub fn find_steps(input: &[u8]) -> usize
     ensures { result ≡ min (steps_place (lines_of input.now)) (length input.now) }
 {
-    let mut at = 0;
-    while at < input.len() {
-        let end = find_byte(input, at, LF);
-        if same_bytes(&input[at..end], b"steps") {
-            return at;
+    let mut reader = LineReader::new(input);
+    while let Some(line) = reader.take_line() {
+        if same_bytes(&input[line.start..line.end], b"steps") {
+            return line.start;
         }
-        at = end + 1;
     }
     input.len()
 }

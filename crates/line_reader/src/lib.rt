@@ -1,13 +1,14 @@
 // The line reader: a lent text and the reader's own place in one record.
 //
-// The work is done by the functions on a text and a number; those over the record are thin. A caller that does not
-// want the record uses `first_line` and `lines::next_line`. No public function has a `requires`, and the crate assumes
-// nothing of its own.
+// The work is done by `lines::next_line` on a text and a number; the methods over the record are thin. A caller that
+// does not want the record uses `first_line` and `lines::next_line`. No public function has a `requires`, and the
+// crate assumes nothing of its own.
 #![tactic(auto)]
 
 ghost use Rattle.std.specs.Prelude.{◌≡◌};
+ghost use Rattle.std.specs.Iterator.{YieldsFirstRef, item_count};
 ghost use Rattle.lines.specs.Line.{line_at};
-ghost use Rattle.line_reader.specs.Reader.{place_after, Taken};
+ghost use Rattle.lines.specs.Lines.{lines_of};
 
 use lines::{Line, next_line};
 
@@ -17,40 +18,55 @@ pub struct LineReader<'a> {
     pub at: usize,
 }
 
-// A reader at the start of the text.
-pub fn line_reader<'a>(text: &'a [u8]) -> LineReader<'a>
-    ensures { (result.text ≡ text.entry) × (result.at ≡ 0) }
-{
-    LineReader { text, at: 0 }
-}
+impl<'a> LineReader<'a> {
+    ghost use Rattle.line_reader.specs.Reader.{lines_left, Taken};
 
-// The place to read on from: behind the line, or where it was when there is none.
-fn place_after(line: Line, at: usize) -> usize
-    ensures { result ≡ place_after line at }
-{
-    match line {
-        Line::At {
-            start: _,
-            end: _,
-            next,
-        } => next,
-        Line::End => at,
+    // A reader at the start of the text.
+    pub fn new(text: &'a [u8]) -> LineReader<'a>
+        ensures same_text { result.text ≡ text.entry }
+        ensures at_start { result.at ≡ 0 }
+        ensures every_line { lines_left result ≡ lines_of text.now }
+    {
+        LineReader { text, at: 0 }
+    }
+
+    // Where the line at the reader's place lies; and the place moves on behind it. At or past the end there is none, and
+    // the place stays.
+    pub fn take_line(&mut self) -> Option<Line>
+        ensures { Taken self.old self.new result }
+    {
+        let line = next_line(self.text, self.at)?;
+        self.at = line.next;
+        Some(line)
+    }
+
+    // The line at the reader's place, as that very stretch of the text; and the place moves on behind it.
+    pub fn next_line(&mut self) -> Option<&'a [u8]>
+        ensures same_text { self.new.text ≡ self.old.text }
+        ensures is_first { YieldsFirstRef lines_left self.old result self.new }
+    {
+        let line = self.take_line()?;
+        Some(&self.text[line.start..line.end])
     }
 }
 
-// The line at the reader's place, and the place moves on behind it. At or past the end it gives no line and stays.
-pub fn take_line<'s, 'a>(r: &'s mut LineReader<'a>) -> Line
-    ensures { Taken r.old r.new result }
-{
-    let line = next_line(r.text, r.at);
-    r.at = place_after(line, r.at);
-    line
+impl<'a> Iterator for LineReader<'a> {
+    ghost use Rattle.line_reader.specs.Reader.{lines_left};
+
+    type Item = &'a [u8];
+
+    ghost next_gives = { YieldsFirstRef lines_left };
+
+    ghost remaining = { item_count lines_left };
+
+    fn next(&mut self) -> Option<&'a [u8]> {
+        self.next_line()
+    }
 }
 
 // The first line of a text.
-pub fn first_line(text: &[u8]) -> Line
+pub fn first_line(text: &[u8]) -> Option<Line>
     ensures { result ≡ line_at text.now 0 }
 {
-    let mut r = line_reader(text);
-    take_line(&mut r)
+    LineReader::new(text).take_line()
 }

@@ -18,15 +18,16 @@ use Rattle.lines.proofs.Laws.{lt_or_ge, lines_next, lines_end}
 use Rattle.lines.proofs.Theorems.{lines_joined}
 use Rattle.numbered_lines.specs.Numbered.{seek, in_start, in_steps}
 use Rattle.numbered_lines.specs.Theorems.{start_of, end_of, NumberedBytes, NumberedPlaces, LineWithin}
-use Rattle.numbered_lines.specs.declared.Search.{Search}
-use Rattle.numbered_lines.specs.declared.Search.TheVariants.{Found, Missing}
+use Rattle.std.specs.Prelude.{Result, Ok, Err}
+use Rattle.lines.specs.Line.{line_to}
+use Rattle.lines.specs.declared.Line.{Line}
 use Rattle.numbered_lines.proofs.Seek.{behind, seek_zero, seek_more, seek_none}
 
 -- ---- its place
 -- the place of a line, and how many are left to count where there are too few
 seek_found : (at : ℕ) (ls : List (List ℕ)) (k : ℕ) → k < length ls
     → seek at ls k
-    ≡ Found (at + length (joined (take k ls))) (at + (length (joined (take k ls)) + length (get_or ls k [])))
+    ≡ Ok (line_to (at + length (joined (take k ls))) (at + (length (joined (take k ls)) + length (get_or ls k []))))
 unfolding seek joined
 seek_found at [] k h = absurd (omega arith)
 seek_found at (l ∷ ls) zero h =
@@ -41,14 +42,14 @@ seek_found at (l ∷ ls) (suc k) h =
     let e : at + length l + 1 + (length j + g) ≡ at + (length (l ++ 10 ∷ j) + g) = omega arith in
     cc (seek_found (at + length l + 1) ls k (omega arith))
 
-seek_left : (at : ℕ) (ls : List (List ℕ)) (k : ℕ) → seek at ls (length ls + k) ≡ Missing k
+seek_left : (at : ℕ) (ls : List (List ℕ)) (k : ℕ) → seek at ls (length ls + k) ≡ Err k
 unfolding seek
-seek_left at [] k = let e : 0 + k ≡ k = omega arith in ap Missing e
+seek_left at [] k = let e : 0 + k ≡ k = omega arith in ap Err e
 seek_left at (l ∷ ls) k =
     let e : suc (length ls) + k ≡ suc (length ls + k) = omega arith in
     ap (seek at (l ∷ ls)) e ∙ seek_left (at + length l + 1) ls k
 
-seek_line : (s : List ℕ) (k : ℕ) → k < length (lines_of s) → seek 0 (lines_of s) k ≡ Found (start_of s k) (end_of s k)
+seek_line : (s : List ℕ) (k : ℕ) → k < length (lines_of s) → seek 0 (lines_of s) k ≡ Ok (line_to (start_of s k) (end_of s k))
 seek_line s k h =
     let a : 0 + start_of s k ≡ start_of s k = omega arith in
     let e : 0 + end_of s k ≡ end_of s k = omega arith in
@@ -94,13 +95,13 @@ line_within s k h =
 
 -- ---- and its bytes
 -- what was found is line k of ls, or there are too few
-abbrev Right : List ℕ → List (List ℕ) → ℕ → Search → Type 0
-Right s ls k (Found a e) = (k < length ls) × (take (e - a) (drop a s) ≡ get_or ls k [])
-Right s ls k (Missing j) = k ≡ length ls + j
+abbrev Right : List ℕ → List (List ℕ) → ℕ → Result Line ℕ → Type 0
+Right s ls k (Ok line) = (k < length ls) × (take (line.end - line.start) (drop line.start s) ≡ get_or ls k [])
+Right s ls k (Err j) = k ≡ length ls + j
 
-further : (s l : List ℕ) (ls : List (List ℕ)) (j : ℕ) (r : Search) → Right s ls j r → Right s (l ∷ ls) (suc j) r
-further s l ls j (Found a e) h = (omega arith, h.1)
-further s l ls j (Missing m) h = omega arith
+further : (s l : List ℕ) (ls : List (List ℕ)) (j : ℕ) (r : Result Line ℕ) → Right s ls j r → Right s (l ∷ ls) (suc j) r
+further s l ls j (Ok line) h = (omega arith, h.1)
+further s l ls j (Err m) h = omega arith
 
 right : (s : List ℕ) (k at : ℕ) → Right s (lines_of (drop at s)) k (seek at (lines_of (drop at s)) k)
 right s zero at =
@@ -120,15 +121,15 @@ right s (suc j) at =
     (λ h. rw (seek_none s at (suc j) h, lines_end s at h) (omega arith))
     (lt_or_ge at (length s))
 
-bytes_steps : (y : Bor (List ℕ)) (k : ℕ) (r : Search) → Right y.now (lines_of y.now) k r
+bytes_steps : (y : Bor (List ℕ)) (k : ℕ) (r : Result Line ℕ) → Right y.now (lines_of y.now) k r
     → (in_steps y r).1 ≡ get_or (lines_of y.now) k []
-bytes_steps y k (Found a e) h = h.1
-bytes_steps y k (Missing j) h = rw sub_self (sym (get_or-eq_default (lines_of y.now) [] {n = k} (omega arith)))
+bytes_steps y k (Ok line) h = h.1
+bytes_steps y k (Err j) h = rw sub_self (sym (get_or-eq_default (lines_of y.now) [] {n = k} (omega arith)))
 
-bytes_start : (x y : Bor (List ℕ)) (k : ℕ) (r : Search) → Right x.now (lines_of x.now) k r
+bytes_start : (x y : Bor (List ℕ)) (k : ℕ) (r : Result Line ℕ) → Right x.now (lines_of x.now) k r
     → (in_start x y r).1 ≡ get_or (lines_of x.now ++ lines_of y.now) k []
-bytes_start x y k (Found a e) h = h.1 ∙ sym (get_or-append (lines_of x.now) (lines_of y.now) [] k h.0)
-bytes_start x y k (Missing j) h =
+bytes_start x y k (Ok line) h = h.1 ∙ sym (get_or-append (lines_of x.now) (lines_of y.now) [] k h.0)
+bytes_start x y k (Err j) h =
     bytes_steps y j (seek 0 (lines_of y.now) j) (right y.now j 0) ∙ rw (h, get_or-append-add)
 
 pub numbered_bytes : NumberedBytes

@@ -1,21 +1,21 @@
 -- The numbered line of two texts, as a stretch of the one that holds it.
 -- Assumes nothing.
-use Rattle.std.specs.Prelude.{ℕ, zero, suc, ◌+◌, ◌-◌, ◌≤◌, List, [], ◌∷◌, length, take, drop}
+use Rattle.std.specs.Prelude.{ℕ, zero, suc, ◌+◌, ◌-◌, ◌≤◌, List, [], ◌∷◌, length, take, drop, Result, Ok, Err}
 use Rattle.std.specs.Borrow.{Bor}
 use Rattle.lines.specs.Lines.{lines_of}
-use Rattle.numbered_lines.specs.declared.Search.{Search}
-use Rattle.numbered_lines.specs.declared.Search.TheVariants.{Found, Missing}
+use Rattle.lines.specs.Line.{line_to}
+use Rattle.lines.specs.declared.Line.{Line}
 
 -- where line k lies, counted from 0, of lines of which the first starts at the place; or how many are left to count
-unfoldable pub seek : ℕ → List (List ℕ) → ℕ → Search
-seek at [] k = Missing k
-seek at (l ∷ ls) zero = Found at (at + length l)
+unfoldable pub seek : ℕ → List (List ℕ) → ℕ → Result Line ℕ
+seek at [] k = Err k
+seek at (l ∷ ls) zero = Ok (line_to at (at + length l))
 seek at (l ∷ ls) (suc k) = seek (at + length l + 1) ls k
 
 -- a line that was found lies in the text
-abbrev pub Within : List ℕ → Search → Type 0
-Within s (Found a e) = (a ≤ e) × (e ≤ length s)
-Within s (Missing k) = Unit {0}
+abbrev pub Within : List ℕ → Result Line ℕ → Type 0
+Within s (Ok line) = (line.start ≤ line.end) × (line.end ≤ length s)
+Within s (Err k) = Unit {0}
 
 -- a stretch of a text: where it points, and its bytes
 abbrev pub Stretch : Type 0
@@ -30,14 +30,14 @@ abbrev pub at_end : Bor (List ℕ) → Stretch
 at_end x = stretch x (length x.now) (length x.now)
 
 -- what was found in the step list
-abbrev pub in_steps : Bor (List ℕ) → Search → Stretch
-in_steps steps (Found a e) = stretch steps a e
-in_steps steps (Missing k) = at_end steps
+abbrev pub in_steps : Bor (List ℕ) → Result Line ℕ → Stretch
+in_steps steps (Ok line) = stretch steps line.start line.end
+in_steps steps (Err k) = at_end steps
 
 -- what was found in the start script; the count goes on through the step list
-abbrev pub in_start : Bor (List ℕ) → Bor (List ℕ) → Search → Stretch
-in_start start steps (Found a e) = stretch start a e
-in_start start steps (Missing k) = in_steps steps (seek 0 (lines_of steps.now) k)
+abbrev pub in_start : Bor (List ℕ) → Bor (List ℕ) → Result Line ℕ → Stretch
+in_start start steps (Ok line) = stretch start line.start line.end
+in_start start steps (Err k) = in_steps steps (seek 0 (lines_of steps.now) k)
 
 -- the numbered line, counted from 1 through the start script and on through the step list; for 0 and for a number past
 -- the end the empty stretch at the end of the step list

@@ -8,32 +8,23 @@ ghost use Rattle.std.specs.Prelude.{◌≡◌};
 ghost use Rattle.lines.specs.Lines.{lines_of};
 ghost use Rattle.numbered_lines.specs.Numbered.{seek, Within, numbered};
 
-use lines::{LF, find_byte};
+use line_reader::LineReader;
+use lines::Line;
 
-// What counting the lines of one text finds.
-#[derive(Drop)]
-enum Search {
-    // The line: its start and its end.
-    Found(usize, usize),
-    // The text has too few lines: how many are left to count.
-    Missing(usize),
-}
-
-// The line k of one text, counted from 0.
-fn seek_line(text: &[u8], k: usize) -> Search
-    ensures { (result ≡ seek 0 (lines_of text.now) k) × Within text.now result }
+// The line k of one text, counted from 0; or, where the text has too few lines, how many are left to count.
+fn seek_line(text: &[u8], k: usize) -> Result<Line, usize>
+    ensures is_the_line { result ≡ seek 0 (lines_of text.now) k }
+    ensures within { Within text.now result }
 {
-    let mut at = 0;
+    let mut reader = LineReader::new(text);
     let mut left = k;
-    while at < text.len() {
-        let end = find_byte(text, at, LF);
+    while let Some(line) = reader.take_line() {
         if left == 0 {
-            return Search::Found(at, end);
+            return Ok(line);
         }
         left -= 1;
-        at = end + 1;
     }
-    Search::Missing(left)
+    Err(left)
 }
 
 // The line of that number, counted from 1 through the start script and on through the step list, without its LF: that
@@ -45,10 +36,10 @@ pub fn numbered_line<'a>(start: &'a [u8], steps: &'a [u8], number: usize) -> &'a
         return &steps[steps.len()..];
     }
     match seek_line(start, number - 1) {
-        Search::Found(a, e) => &start[a..e],
-        Search::Missing(k) => match seek_line(steps, k) {
-            Search::Found(a, e) => &steps[a..e],
-            Search::Missing(_) => &steps[steps.len()..],
+        Ok(line) => &start[line.start..line.end],
+        Err(left) => match seek_line(steps, left) {
+            Ok(line) => &steps[line.start..line.end],
+            Err(_) => &steps[steps.len()..],
         },
     }
 }

@@ -11,6 +11,9 @@ ghost use Rattle.numbers.specs.Number.{number_of, NineDigits};
 
 const COMMA: u8 = b',';
 
+// What no number of two digits or more begins with.
+const ZERO: u8 = b'0';
+
 // A number, and the place where its field ends.
 #[derive(Clone, Copy, Debug, PartialEq, Eq)]
 pub struct Field {
@@ -46,7 +49,7 @@ fn leading_number(s: &[u8], at: usize) -> Option<Field>
     if number.end == at {
         return None;
     }
-    if s[at] == b'0' && number.end - at > 1 {
+    if s[at] == ZERO && number.end - at > 1 {
         return None;
     }
     Some(number)

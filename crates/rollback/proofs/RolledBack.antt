@@ -1,8 +1,8 @@
 -- What a rollback step does to the whole store in its words. Assumes nothing.
 use Prim.Native.Nat.{ℕ, ◌-◌, ◌≤◌}
 use mathlib.Core.Path.{◌≡◌, refl, ap, sym, ◌∙◌}
-use mathlib.Core.List.{List, [], ◌∷◌, tail, head?}
-use mathlib.Core.Option.{Option}
+use mathlib.Core.List.{List, [], ◌∷◌, tail}
+use Rattle.std.specs.Prelude.{Option}
 use native.Mathlib.Omega.{arith}
 use lib.ListN.{length, get_or, set}
 use Rattle.answers.specs.declared.Answer.TheVariants.{Left}
@@ -18,12 +18,13 @@ use Rattle.store_words.proofs.Places.{transaction_is}
 use Rattle.store_words.specs.States.{StateHolds, HasRoom}
 use Rattle.store_words.specs.Performed.{Ready, Performed}
 use Rattle.store_words.proofs.Performed.{room_after, performed, words_same}
+use Rattle.undo_logs.specs.Newest.{newest}
 use Rattle.rollback.specs.Undone.{undone}
 
 -- ---- a rollback
 roll_back_is : (d : Store) (e : ℕ) (log : List Entry)
     → undo_newest d e log ≡ record {
-      store = put d (undone (head? log) d.state) e (unwound (tail log) (transaction d e).locks);
+      store = put d (undone (newest log) d.state) e (unwound (tail log) (transaction d e).locks);
       answer = Left (length (tail log));
     }
 roll_back_is d e [] = refl
@@ -32,7 +33,7 @@ roll_back_is d e (n ∷ log) = refl
 module _ (s q : List ℕ) (ts : List (List ℕ)) (e : ℕ) (r : Ready s q ts e roll_back) (h : 1 ≤ e) where
   pub rolled_back_is : perform (store_of s q ts) e roll_back
       ≡ record {
-        store = put (store_of s q ts) (undone (head? (transaction_of (get_or ts (e - 1) [])).log) (state_of s q)) e
+        store = put (store_of s q ts) (undone (newest (transaction_of (get_or ts (e - 1) [])).log) (state_of s q)) e
             (unwound_once (transaction_of (get_or ts (e - 1) [])));
         answer = Left (length (tail (transaction_of (get_or ts (e - 1) [])).log));
       }
@@ -41,7 +42,7 @@ module _ (s q : List ℕ) (ts : List (List ℕ)) (e : ℕ) (r : Ready s q ts e r
       let d = store_of s q ts in
       roll_back_is d e (transaction d e).log ∙ (rw (transaction_is s q ts e h) refl)
 
-  pub roll_back_room : (n : Option Entry) → n ≡ head? (transaction_of (get_or ts (e - 1) [])).log
+  pub roll_back_room : (n : Option Entry) → n ≡ newest (transaction_of (get_or ts (e - 1) [])).log
       → HasRoom (undone n (state_of s q))
   unfolding put
   roll_back_room n p = rw p (rw rolled_back_is at (room_after s q ts e roll_back r))
@@ -57,7 +58,7 @@ left_count t w n m e =
     ap Left (e ∙ ap (λ (x : Transaction). length x.log) m.is ∙ ap length (unwound-log (tail t.log) t.locks))
 
 module _ (s q : List ℕ) (ts : List (List ℕ)) (e : ℕ) (r : Ready s q ts e roll_back) (h : 1 ≤ e) (g : e ≤ 8) where
-  pub rolled_back_done : (n : Option Entry) → n ≡ head? (transaction_of (get_or ts (e - 1) [])).log
+  pub rolled_back_done : (n : Option Entry) → n ≡ newest (transaction_of (get_or ts (e - 1) [])).log
       → (s' q' w : List ℕ) (b : ℕ) → StateHolds s' q' (undone n (state_of s q))
       → Made w (unwound_once (transaction_of (get_or ts (e - 1) [])))
       → b ≡ length (transaction_of (get_or (set ts (e - 1) w) (e - 1) [])).log

@@ -9,7 +9,6 @@ ghost use Rattle.std.specs.Prelude.{◌≤◌};
 ghost use Rattle.boosting.specs.Undo.{inverse};
 ghost use Rattle.boosting.specs.Rows.{roll_back};
 ghost use Rattle.boosting.specs.Step.{perform};
-ghost use Rattle.undo_logs.specs.Code.{model_entry, model_newest};
 ghost use Rattle.store_words.specs.Words.{state_of, store_of};
 ghost use Rattle.store_words.specs.States.{StateFits, StateHolds, HasRoom};
 ghost use Rattle.store_words.specs.Performed.{Ready, Performed};
@@ -17,14 +16,15 @@ ghost use Rattle.rollback.specs.Undone.{undone};
 
 use answers::Answer;
 use counted_tables::{insert_key, put_once, remove_key};
-use undo_logs::{Entry, Newest, entry_count, newest_entry, unwind};
+use undo_logs::{entry_count, newest_entry, unwind};
+use vocabulary::Entry;
 
 // The inverse of what an entry notes.
 fn undo_entry(script: &mut [u64; 257], queue: &mut [u64; 65], entry: Entry)
     requires state_fits { StateFits script.old queue.old }
-    requires has_room { HasRoom (inverse (model_entry entry) (state_of script.old queue.old)) }
+    requires has_room { HasRoom (inverse entry (state_of script.old queue.old)) }
     ensures { StateHolds script.new queue.new
-        (inverse (model_entry entry) (state_of script.old queue.old)) }
+        (inverse entry (state_of script.old queue.old)) }
 {
     match entry {
         Entry::Added(key) => {
@@ -41,15 +41,14 @@ fn undo_entry(script: &mut [u64; 257], queue: &mut [u64; 65], entry: Entry)
 }
 
 // The inverse of the newest entry, if there is one.
-fn undo_newest(script: &mut [u64; 257], queue: &mut [u64; 65], newest: Newest)
+fn undo_newest(script: &mut [u64; 257], queue: &mut [u64; 65], newest: Option<Entry>)
     requires state_fits { StateFits script.old queue.old }
-    requires has_room { HasRoom (undone (model_newest newest) (state_of script.old queue.old)) }
+    requires has_room { HasRoom (undone newest (state_of script.old queue.old)) }
     ensures { StateHolds script.new queue.new
-        (undone (model_newest newest) (state_of script.old queue.old)) }
+        (undone newest (state_of script.old queue.old)) }
 {
-    match newest {
-        Newest::Entry(entry) => undo_entry(script, queue, entry),
-        Newest::Nothing => {}
+    if let Some(entry) = newest {
+        undo_entry(script, queue, entry);
     }
 }
 

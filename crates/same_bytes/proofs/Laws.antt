@@ -6,6 +6,7 @@ use Prim.Native.Nat.{ℕ, suc, ◌+◌, ◌≤◌, ◌<◌}
 use native.Mathlib.Numerals.{add-one}
 use native.Mathlib.Omega.{arith}
 use lib.Dec.{eqb}
+use lib.Pointwise.{pointwise}
 use lib.ListN.{length, get_or, drop, drop_of_length-le}
 use lib.Seq.{drop-cons}
 use borrow.Author.Tests.{eq-eqb, ne_eqb, eqb-true}
@@ -58,3 +59,11 @@ same_first [] [] n = absurd (n refl)
 same_first [] (b ∷ v) n = refl
 same_first (a ∷ u) [] n = refl
 same_first (a ∷ u) (b ∷ v) n = simp (ne_eqb a b n)
+
+-- std's equality of two slices
+pub pointwise_same : (u v : List ℕ) → pointwise eqb u v ≡ same u v
+unfolding same
+pointwise_same [] [] = refl
+pointwise_same [] (b ∷ v) = refl
+pointwise_same (a ∷ u) [] = refl
+pointwise_same (a ∷ u) (b ∷ v) = rw (pointwise_same u v) refl

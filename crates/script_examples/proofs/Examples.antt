@@ -3,7 +3,7 @@ use mathlib.Core.Path.{◌≡◌, refl}
 use mathlib.Core.List.{List, [], ◌∷◌, ◌++◌, map}
 use Prim.Native.Nat.{ℕ, zero, suc, ◌+◌}
 use Prim.Native.String.{String}
-use Rattle.refusals.specs.declared.Refusal.{Refusal}
+use Rattle.std.specs.Prelude.{Result, Ok}
 use Rattle.refusals.specs.declared.Refusal.TheVariants.{Malformed, CueOutOfRange, ScriptFull}
 use Rattle.lines.specs.Ascii.{bytes}
 use Rattle.lines.specs.Lines.{up_to, onto, lines_of}
@@ -13,23 +13,18 @@ use Rattle.cues.specs.Cue.{key_of}
 use Rattle.cue_lines.specs.CueLine.{fields_of}
 use Rattle.cue_texts.specs.CueText.{cue_text}
 use Rattle.tables.specs.Table.{member_of, insert_of}
-use Rattle.scripts.specs.declared.reading.Outcome.{Outcome}
-use Rattle.scripts.specs.declared.reading.Outcome.TheVariants.{Accepted, Refused}
-use Rattle.scripts.specs.Script.{read_from, script_of}
+use Rattle.refusals.specs.declared.RefusedText.{RefusedText}
+use Rattle.scripts.specs.Script.{refused_at, read_from, script_of, script_or_empty}
 use Rattle.scripts.specs.ScriptText.{text_of}
 
 abbrev key : ℕ → ℕ → ℕ → ℕ
 key time «module» pin = key_of (record { time = time; «module» = «module»; pin = pin })
 
-abbrev accepted : List ℕ → Outcome × List ℕ
-accepted t = (Accepted, t)
-
--- refused at line n, with the empty script
-abbrev refused_at : ℕ → Refusal → Outcome × List ℕ
-refused_at n r = (Refused r n, [])
+abbrev accepted : List ℕ → Result (List ℕ) RefusedText
+accepted t = Ok t
 
 -- texts, and what each is read as
-abbrev examples : List (String × (Outcome × List ℕ))
+abbrev examples : List (String × Result (List ℕ) RefusedText)
 examples =
     ("", accepted [])
     -- any order; a repeated line is kept once; the last LF may be missing
@@ -61,7 +56,7 @@ unfolding lines_of onto up_to value_from number_of fields_of member_of insert_of
 examples_read = refl
 
 -- the normal form of a text: rising order, each line with its LF
-pub normal_form : text_of (script_of (bytes "1500,4,12\n1500,2,7")).1 ≡ bytes "1500,2,7\n1500,4,12\n"
+pub normal_form : text_of (script_or_empty (script_of (bytes "1500,4,12\n1500,2,7"))) ≡ bytes "1500,2,7\n1500,4,12\n"
 unfolding lines_of onto up_to value_from number_of fields_of member_of insert_of read_from script_of digits_at cue_text text_of
 normal_form = refl
 

@@ -13,17 +13,15 @@ use Rattle.lines.proofs.Laws.{lines_append}
 use Rattle.cues.specs.Cue.{key_of, cue_of, CueKey}
 use Rattle.cue_lines.specs.CueLine.{cue_line_of}
 use Rattle.cue_texts.specs.CueText.{cue_body, cue_text}
-use Rattle.cue_lines.specs.declared.CueLine.{CueLine}
-use Rattle.cue_lines.specs.declared.CueLine.TheVariants.{InRange}
-use Rattle.cue_lines.specs.declared.CueLine.TheVariants.{Refused as RefusedLine}
+use Rattle.std.specs.Prelude.{Result, Ok, Err}
+use Rattle.refusals.specs.declared.Refusal.{Refusal}
+use Rattle.cues.specs.declared.Cue.{Cue}
 use Rattle.cues.proofs.Theorems.{key_is_cue_key}
 use Rattle.cue_texts.proofs.Theorems.{body_text, cue_line_no_lf, cue_line_short}
 use Rattle.cue_lines.proofs.Theorems.{cue_write_then_read, cue_read_is_canonical}
 use Rattle.tables.specs.Table.{From, Ordered, member_of, insert_of}
 use Rattle.tables.proofs.Laws.{split, length_insert, member_insert, ext_rising}
-use Rattle.scripts.specs.declared.reading.Outcome.{Outcome}
-use Rattle.scripts.specs.declared.reading.Outcome.TheVariants.{Accepted}
-use Rattle.scripts.specs.Script.{LineRead, kept, refused, by_key, by_line, onward, read_from, script_of}
+use Rattle.scripts.specs.Script.{by_key, by_line, onward, read_from, script_of, script_or_empty}
 use Rattle.scripts.specs.ScriptText.{text_of}
 use Rattle.scripts.specs.Theorems.{
   AllCues,
@@ -58,11 +56,11 @@ data Grown (k : ℕ) (t u : List ℕ) : Type 0 where
   known : member_of k t ≡ true → u ≡ t → Grown k t u
   new : length t < 256 → u ≡ insert_of k t → Grown k t u
 
-grown : (k : ℕ) (t u : List ℕ) → kept u ≡ by_key t k → Grown k t u
+grown : (k : ℕ) (t u : List ℕ) → Ok u ≡ by_key t k → Grown k t u
 grown k t u e = by_tests (member_of k t) (ltb (length t) 256) refl refl e
   where
     by_tests : (a b : Bool) → member_of k t ≡ a → ltb (length t) 256 ≡ b
-        → kept u ≡ cond a (kept t) (cond b (kept (insert_of k t)) (refused ScriptFull)) → Grown k t u
+        → Ok u ≡ cond a (Ok t) (cond b (Ok (insert_of k t)) (Err ScriptFull)) → Grown k t u
     by_tests true b m l q = known m (cc)
     by_tests false true m l q = new (ltb-true _ _ l) (cc)
     by_tests false false m l q = let z : ◌≡◌ {A = ℕ} 0 1 = cc in absurd (omega arith)
@@ -82,29 +80,29 @@ key_sound k t u g s o (new l e) = record {
 }
 
 -- ---- what is read is sound
-pub line_sound : (t u l : List ℕ) → SoundScript t → kept u ≡ by_line t (cue_line_of l) → SoundScript u
+pub line_sound : (t u l : List ℕ) → SoundScript t → Ok u ≡ by_line t (cue_line_of l) → SoundScript u
 line_sound t u l s e = by_line_lem (cue_line_of l) refl e
   where
-    by_line_lem : (c : CueLine) → cue_line_of l ≡ c → kept u ≡ by_line t c → SoundScript u
-    by_line_lem (InRange c) q f =
+    by_line_lem : (c : Result Cue Refusal) → cue_line_of l ≡ c → Ok u ≡ by_line t c → SoundScript u
+    by_line_lem (Ok c) q f =
         key_sound (key_of c) t u (key_is_cue_key c (cue_read_is_canonical l c q).1) s
-        (line_ordered t u (InRange c) s.rising f) (grown (key_of c) t u f)
-    by_line_lem (RefusedLine r) q f = let z : ◌≡◌ {A = ℕ} 0 1 = cc in absurd (omega arith)
+        (line_ordered t u (Ok c) s.rising f) (grown (key_of c) t u f)
+    by_line_lem (Err r) q f = let z : ◌≡◌ {A = ℕ} 0 1 = cc in absurd (omega arith)
 
 pub empty_sound : SoundScript []
 empty_sound = record { rising = tt; in_range = tt; at_most = omega arith }
 
-lines_sound : (ls : List (List ℕ)) (t : List ℕ) (n : ℕ) → SoundScript t → SoundScript (read_from n t ls).1
+lines_sound : (ls : List (List ℕ)) (t : List ℕ) (n : ℕ) → SoundScript t → SoundScript (script_or_empty (read_from n t ls))
 unfolding read_from
 lines_sound [] t n s = s
 lines_sound (l ∷ ls) t n s =
     by_read (by_line t (cue_line_of l)) refl (λ u e. lines_sound ls u (n + 1) (line_sound t u l s e))
   where
-    by_read : (r : LineRead) → r ≡ by_line t (cue_line_of l)
-        → ((u : List ℕ) → kept u ≡ by_line t (cue_line_of l) → SoundScript (read_from (n + 1) u ls).1)
-        → SoundScript (onward n r (λ u. read_from (n + 1) u ls)).1
-    by_read (kept u) e more = more u e
-    by_read (refused r) e more = empty_sound
+    by_read : (r : Result (List ℕ) Refusal) → r ≡ by_line t (cue_line_of l)
+        → ((u : List ℕ) → Ok u ≡ by_line t (cue_line_of l) → SoundScript (script_or_empty (read_from (n + 1) u ls)))
+        → SoundScript (script_or_empty (onward n r (λ u. read_from (n + 1) u ls)))
+    by_read (Ok u) e more = more u e
+    by_read (Err r) e more = empty_sound
 
 pub read_is_sound : ReadIsSound
 unfolding script_of
@@ -139,23 +137,23 @@ next_last k (x ∷ u) r o =
     let h : x < k = omega (arith, from_next (x + 1) k u r o.0) in
     rw (lt-ltb x k h) (ap (λ (l : List ℕ). x ∷ l) (next_last k u r o.1))
 
-key_last : (k : ℕ) (u r : List ℕ) → Ordered 1 (u ++ k ∷ r) → length u < 256 → by_key u k ≡ kept (u ++ (k ∷ []))
+key_last : (k : ℕ) (u r : List ℕ) → Ordered 1 (u ++ k ∷ r) → length u < 256 → by_key u k ≡ Ok (u ++ (k ∷ []))
 key_last k u r o h = rw (next_new k u r o, lt-ltb (length u) 256 h, next_last k u r o)
 
 line_last : (k : ℕ) (u r : List ℕ) → CueKey k → Ordered 1 (u ++ k ∷ r) → length u < 256
-    → by_line u (cue_line_of (cue_body (cue_of k))) ≡ kept (u ++ (k ∷ []))
+    → by_line u (cue_line_of (cue_body (cue_of k))) ≡ Ok (u ++ (k ∷ []))
 line_last k u r g o h =
     ap (by_line u) (cue_write_then_read (cue_of k) g.in_range) ∙ (ap (by_key u) g.is_key ∙ key_last k u r o h)
 
 lines_read : (t u : List ℕ) (n : ℕ) → AllCues t → Ordered 1 (u ++ t) → length (u ++ t) ≤ 256
-    → read_from n u (map (λ k. cue_body (cue_of k)) t) ≡ (Accepted, u ++ t)
+    → read_from n u (map (λ k. cue_body (cue_of k)) t) ≡ Ok (u ++ t)
 unfolding read_from
-lines_read [] u n c o h = ap (λ (x : List ℕ). (Accepted, x)) (sym (append-nil u))
+lines_read [] u n c o h = ap Ok (sym (append-nil u))
 lines_read (k ∷ ks) u n c o h =
     let e : (u ++ (k ∷ [])) ++ ks ≡ u ++ k ∷ ks = append_assoc u (k ∷ []) ks in
     let l : length u < 256 = omega (arith, length-append u (k ∷ ks)) in
     rw (line_last k u ks c.0 o l)
-    (lines_read ks (u ++ (k ∷ [])) (n + 1) c.1 (rw e o) (rw e h) ∙ ap (λ (x : List ℕ). (Accepted, x)) e)
+    (lines_read ks (u ++ (k ∷ [])) (n + 1) c.1 (rw e o) (rw e h) ∙ ap Ok e)
 
 pub write_then_read : WriteThenRead
 write_then_read t s =
@@ -165,7 +163,7 @@ write_then_read t s =
 -- ---- equal bytes exactly where the cues are equal
 pub text_one_to_one : (t u : List ℕ) → SoundScript t → SoundScript u → text_of t ≡ text_of u → t ≡ u
 text_one_to_one t u s v e =
-    ap (λ (x : Outcome × List ℕ). x.1) (sym (write_then_read t s) ∙ (ap script_of e ∙ write_then_read u v))
+    ap script_or_empty (sym (write_then_read t s) ∙ (ap script_of e ∙ write_then_read u v))
 
 pub same_bytes_same_cues : SameBytesSameCues
 same_bytes_same_cues t u s v = (
@@ -180,15 +178,15 @@ key_member j k t u (known m e) =
     ap (member_of j) e
     ∙ split (eqb k j) (λ q. rw q (ap (λ (x : ℕ). member_of x t) (sym (eqb-true k j q)) ∙ m)) (λ q. rw q)
 
-line_member : (j : ℕ) (t u : List ℕ) (c : CueLine) → kept u ≡ by_line t c → member_of j u ≡ (is_cue j c || member_of j t)
-line_member j t u (InRange c) e = key_member j (key_of c) t u (grown (key_of c) t u e)
-line_member j t u (RefusedLine r) e = let z : ◌≡◌ {A = ℕ} 0 1 = cc in absurd (omega arith)
+line_member : (j : ℕ) (t u : List ℕ) (c : Result Cue Refusal) → Ok u ≡ by_line t c → member_of j u ≡ (is_cue j c || member_of j t)
+line_member j t u (Ok c) e = key_member j (key_of c) t u (grown (key_of c) t u e)
+line_member j t u (Err r) e = let z : ◌≡◌ {A = ℕ} 0 1 = cc in absurd (omega arith)
 
-lines_member : (ls : List (List ℕ)) (t : List ℕ) (n j : ℕ) → (read_from n t ls).0 ≡ Accepted
-    → member_of j (read_from n t ls).1 ≡ (any_cue j ls || member_of j t)
+lines_member : (ls : List (List ℕ)) (t v : List ℕ) (n j : ℕ) → read_from n t ls ≡ Ok v
+    → member_of j v ≡ (any_cue j ls || member_of j t)
 unfolding read_from any_cue
-lines_member [] t n j a = refl
-lines_member (l ∷ ls) t n j a = by_read (by_line t (cue_line_of l)) refl a (λ u. lines_member ls u (n + 1) j)
+lines_member [] t v n j a = let e : t ≡ v = cc in ap (member_of j) (sym e)
+lines_member (l ∷ ls) t v n j a = by_read (by_line t (cue_line_of l)) refl a (λ u. lines_member ls u v (n + 1) j)
   where
     either : (a b c : Bool) → (a || (b || c)) ≡ (b || a || c)
     either true true c = refl
@@ -196,20 +194,19 @@ lines_member (l ∷ ls) t n j a = by_read (by_line t (cue_line_of l)) refl a (λ
     either false true c = refl
     either false false c = refl
 
-    by_read : (r : LineRead) → r ≡ by_line t (cue_line_of l) → (onward n r (λ u. read_from (n + 1) u ls)).0 ≡ Accepted
-        → ((u : List ℕ) → (read_from (n + 1) u ls).0 ≡ Accepted
-        → member_of j (read_from (n + 1) u ls).1 ≡ (any_cue j ls || member_of j u))
-        → member_of j (onward n r (λ u. read_from (n + 1) u ls)).1
-        ≡ (is_cue j (cue_line_of l) || any_cue j ls || member_of j t)
-    by_read (kept u) e b more =
+    by_read : (r : Result (List ℕ) Refusal) → r ≡ by_line t (cue_line_of l)
+        → onward n r (λ u. read_from (n + 1) u ls) ≡ Ok v
+        → ((u : List ℕ) → read_from (n + 1) u ls ≡ Ok v → member_of j v ≡ (any_cue j ls || member_of j u))
+        → member_of j v ≡ (is_cue j (cue_line_of l) || any_cue j ls || member_of j t)
+    by_read (Ok u) e b more =
         more u b
         ∙ (ap (λ (x : Bool). any_cue j ls || x) (line_member j t u (cue_line_of l) e)
         ∙ either (any_cue j ls) (is_cue j (cue_line_of l)) (member_of j t))
-    by_read (refused r) e b more = let z : ◌≡◌ {A = ℕ} 0 1 = cc in absurd (omega arith)
+    by_read (Err r) e b more = let z : ◌≡◌ {A = ℕ} 0 1 = cc in absurd (omega arith)
 
 pub accepted_cues : AcceptedCues
 unfolding script_of member_of
-accepted_cues s k =
+accepted_cues s t k =
     split (ltb 65536 (length s))
     (λ e. rw e (λ a. let z : ◌≡◌ {A = ℕ} 0 1 = cc in absurd (omega arith)))
-    (λ e. rw e (λ a. lines_member (lines_of s) [] 1 k a ∙ or-false (any_cue k (lines_of s))))
+    (λ e. rw e (λ a. lines_member (lines_of s) [] t 1 k a ∙ or-false (any_cue k (lines_of s))))

@@ -1,30 +1,11 @@
 -- The counts that reading a table hands from line to line, in terms of the keys they stand for. Assumes nothing.
-use Rattle.std.specs.Prelude.{ℕ, ◌≤◌, List, [], take}
-use Rattle.scripts.specs.declared.reading.Outcome.{Outcome}
-use Rattle.scripts.specs.declared.reading.Outcome.TheVariants.{Accepted, Refused}
-use Rattle.scripts.specs.declared.reading.Taken.{Taken}
-use Rattle.scripts.specs.declared.reading.Taken.TheVariants.{Count}
-use Rattle.scripts.specs.declared.reading.Taken.TheVariants.{Refused as RefusedTake}
-use Rattle.scripts.specs.declared.reading.Counted.{Counted}
-use Rattle.scripts.specs.declared.reading.Counted.TheVariants.{Keys}
-use Rattle.scripts.specs.declared.reading.Counted.TheVariants.{Refused as RefusedText}
-use Rattle.scripts.specs.Script.{LineRead, kept, refused}
+use Rattle.std.specs.Prelude.{ℕ, ◌≤◌, List, take, Result, Ok, Err, IfOk}
 
--- what a line did, of its answer and the words that it left
-abbrev pub taken : Taken → List ℕ → LineRead
-taken (Count m) words = kept (take m words)
-taken (RefusedTake r) words = refused r
-
--- what all lines did
-abbrev pub counted : Counted → List ℕ → Outcome × List ℕ
-counted (Keys m) words = (Accepted, take m words)
-counted (RefusedText r n) words = (Refused r n, [])
+-- the keys that a count tells of the words that were left; or why there is none
+abbrev pub taken : {E : Type 0} → Result ℕ E → List ℕ → Result (List ℕ) E
+taken (Ok m) words = Ok (take m words)
+taken (Err why) words = Err why
 
 -- a table has at most 256 keys
-abbrev pub TakenFits : Taken → Type 0
-TakenFits (Count m) = m ≤ 256
-TakenFits (RefusedTake r) = Unit {0}
-
-abbrev pub CountedFits : Counted → Type 0
-CountedFits (Keys m) = m ≤ 256
-CountedFits (RefusedText r n) = Unit {0}
+abbrev pub CountFits : {E : Type 0} → Result ℕ E → Type 0
+CountFits count = IfOk count (λ m. m ≤ 256)

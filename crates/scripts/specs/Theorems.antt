@@ -1,13 +1,12 @@
 -- What holds of reading and writing scripts; proved in `proofs/Theorems.antt`. Assumes nothing.
-use Rattle.std.specs.Prelude.{◌≡◌, Bool, false, ◌||◌, List, [], ◌∷◌, ◌↔◌, ℕ, ◌≤◌, nat_eq, length}
+use Rattle.std.specs.Prelude.{◌≡◌, Bool, false, ◌||◌, List, [], ◌∷◌, ◌↔◌, ℕ, ◌≤◌, nat_eq, length, Result, Ok, Err}
 use Rattle.lines.specs.Lines.{lines_of}
 use Rattle.cues.specs.Cue.{CueKey, key_of}
 use Rattle.cue_lines.specs.CueLine.{cue_line_of}
-use Rattle.cue_lines.specs.declared.CueLine.{CueLine}
-use Rattle.cue_lines.specs.declared.CueLine.TheVariants.{InRange, Refused}
+use Rattle.refusals.specs.declared.Refusal.{Refusal}
+use Rattle.cues.specs.declared.Cue.{Cue}
 use Rattle.tables.specs.Table.{Ordered, member_of}
-use Rattle.scripts.specs.declared.reading.Outcome.TheVariants.{Accepted}
-use Rattle.scripts.specs.Script.{script_of}
+use Rattle.scripts.specs.Script.{script_of, script_or_empty}
 use Rattle.scripts.specs.ScriptText.{text_of}
 
 -- each key is that of a cue in range
@@ -23,11 +22,11 @@ pub record SoundScript (t : List ℕ) : Type 0 where
 
 -- every script read is sound, the empty one of a refused text too
 abbrev pub ReadIsSound : Type 0
-ReadIsSound = (s : List ℕ) → SoundScript (script_of s).1
+ReadIsSound = (s : List ℕ) → SoundScript (script_or_empty (script_of s))
 
 -- a sound script, written and read, is the same script
 abbrev pub WriteThenRead : Type 0
-WriteThenRead = (t : List ℕ) → SoundScript t → script_of (text_of t) ≡ (Accepted, t)
+WriteThenRead = (t : List ℕ) → SoundScript t → script_of (text_of t) ≡ Ok t
 
 -- two sound scripts have the same bytes exactly if they have the same cues
 abbrev pub SameBytesSameCues : Type 0
@@ -35,9 +34,9 @@ SameBytesSameCues =
     (t u : List ℕ) → SoundScript t → SoundScript u → (text_of t ≡ text_of u) ↔ ((k : ℕ) → member_of k t ≡ member_of k u)
 
 -- a line that stands for the cue with the key k
-abbrev pub is_cue : ℕ → CueLine → Bool
-is_cue k (InRange c) = nat_eq (key_of c) k
-is_cue k (Refused r) = false
+abbrev pub is_cue : ℕ → Result Cue Refusal → Bool
+is_cue k (Ok c) = nat_eq (key_of c) k
+is_cue k (Err r) = false
 
 -- some line stands for it
 unfoldable pub any_cue : ℕ → List (List ℕ) → Bool
@@ -46,7 +45,7 @@ any_cue k (l ∷ ls) = is_cue k (cue_line_of l) || any_cue k ls
 
 -- the cues of an accepted text are those of its lines
 abbrev pub AcceptedCues : Type 0
-AcceptedCues = (s : List ℕ) (k : ℕ) → (script_of s).0 ≡ Accepted → member_of k (script_of s).1 ≡ any_cue k (lines_of s)
+AcceptedCues = (s t : List ℕ) (k : ℕ) → script_of s ≡ Ok t → member_of k t ≡ any_cue k (lines_of s)
 
 -- the longest text written from a script is 3,584 bytes
 abbrev pub TextFits : Type 0

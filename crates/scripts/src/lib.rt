@@ -7,4 +7,4 @@
 
 mod reading;
 
-pub use reading::{Outcome, Reading, Script, empty_script, read_script};
+pub use reading::{Script, empty_script, read_script};

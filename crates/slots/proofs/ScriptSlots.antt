@@ -3,7 +3,7 @@ use Prim.Native.Nat.{ℕ, ◌+◌, ◌-◌, ◌≤◌, ◌<◌}
 use mathlib.Core.Path.{◌≡◌, refl, ap, sym, ◌∙◌}
 use mathlib.Core.Bool.{Bool, false, not}
 use mathlib.Core.List.{List, [], ◌∷◌, map}
-use mathlib.Core.Option.{some}
+use Rattle.std.specs.Prelude.{Some}
 use native.Mathlib.Numerals.{add-one}
 use native.Mathlib.Omega.{arith}
 use borrow.Author.Tests.{lt-leb, le-leb}
@@ -82,10 +82,10 @@ module _ (ts : List (List ℕ)) (l : List ℕ) where
 
 -- room by the count, or by the cue
 module _ (key : ℕ) (slots : List ℕ) where
-  pub room_left : length slots < 256 → script_full (some (added key)) slots ≡ false
+  pub room_left : length slots < 256 → script_full (Some (added key)) slots ≡ false
   room_left h = split (member_of key slots) (λ m. rw m) (λ m. rw (m, lt-leb 256 (length slots) h))
 
-  pub room_held : 256 ≤ length slots → script_full (some (added key)) slots ≡ not (member_of key slots)
+  pub room_held : 256 ≤ length slots → script_full (Some (added key)) slots ≡ not (member_of key slots)
   room_held h = split (member_of key slots) (λ m. rw m) (λ m. rw (m, le-leb 256 (length slots) h))
 
 -- the same of slots that stand in a table
@@ -93,10 +93,10 @@ module _ (key n : ℕ) (keys slots : List ℕ) (e : take n keys ≡ slots) (h : 
   count : length slots ≡ n
   count = ap length (sym e) ∙ length-take-le n keys h
 
-  pub not_full : n < 256 → false ≡ script_full (some (added key)) slots
+  pub not_full : n < 256 → false ≡ script_full (Some (added key)) slots
   not_full g = sym (room_left key slots (omega (arith, count)))
 
   pub full_unless_there : (b : Bool) → 256 ≤ n → b ≡ member_of key (take n keys)
-      → not b ≡ script_full (some (added key)) slots
+      → not b ≡ script_full (Some (added key)) slots
   full_unless_there b g m =
       ap not (m ∙ ap (λ (l : List ℕ). member_of key l) e) ∙ sym (room_held key slots (omega (arith, count)))

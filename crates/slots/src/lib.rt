@@ -4,18 +4,16 @@
 // stepping establish of them.
 #![tactic(auto)]
 
-ghost use Rattle.std.specs.Prelude.{◌≡◌, [], ◌∷◌, map, ◌+◌, ◌<◌, ◌≤◌, nat_le, length, take};
-ghost use Rattle.std.proofs.Math.Option.{some};
+ghost use Rattle.std.specs.Prelude.{◌≡◌, [], ◌∷◌, map, ◌+◌, ◌<◌, ◌≤◌, nat_le, length, take, Some};
 ghost use Rattle.tables.specs.Table.{Ordered};
 ghost use Rattle.boosting.specs.Undo.{added};
 ghost use Rattle.boosting.specs.Room.{reserved_by, reserved_in, takes_in, script_full};
 ghost use Rattle.transactions.specs.View.{WordsFit, transaction_of};
-ghost use Rattle.undo_logs.specs.Code.{model_entry};
 ghost use Rattle.store_words.specs.Words.{ScriptFits, QueueFits, TransactionsFit, script_in, queue_in};
 ghost use Rattle.slots.specs.Entries.{entries_in};
 
 use store_words::{QUEUE_COUNT, SCRIPT_COUNT};
-use undo_logs::Entry;
+use vocabulary::Entry;
 
 // How many entries the logs have together: an entry keeps at most one slot, of the script or of the queue.
 fn all_entries(ts: &[[u64; 64]; 8]) -> usize
@@ -23,10 +21,8 @@ fn all_entries(ts: &[[u64; 64]; 8]) -> usize
     ensures { (result ≡ entries_in (map transaction_of ts.now)) × (result ≤ 128) }
 {
     let mut entries: usize = 0;
-    let mut i = 0;
-    while i < 8 {
-        entries += undo_logs::entry_count(&ts[i]);
-        i += 1;
+    for t in ts {
+        entries += undo_logs::entry_count(t);
     }
     entries
 }
@@ -37,10 +33,8 @@ fn queue_slots(queue: &[u64; 65], ts: &[[u64; 64]; 8]) -> usize
     ensures { result ≡ length (queue_in queue.now) + takes_in (map transaction_of ts.now) }
 {
     let mut slots = queue[QUEUE_COUNT] as usize;
-    let mut i = 0;
-    while i < 8 {
-        slots += undo_logs::take_count(&ts[i]);
-        i += 1;
+    for t in ts {
+        slots += undo_logs::take_count(t);
     }
     slots
 }
@@ -61,7 +55,7 @@ pub fn queue_full(queue: &[u64; 65], ts: &[[u64; 64]; 8]) -> bool
 // The slot that an entry keeps is put among the first n: only add and remove entries keep one.
 fn reserve_entry(keys: &mut [u64], n: usize, entry: Entry) -> usize
     requires { (n < length keys.old) × Ordered 1 (take n keys.old) }
-    ensures { (take result keys.new ≡ reserved_by (model_entry entry ∷ []) (take n keys.old))
+    ensures { (take result keys.new ≡ reserved_by (entry ∷ []) (take n keys.old))
         × (result ≤ n + 1) }
 {
     match entry {
@@ -80,11 +74,8 @@ fn reserve_log(keys: &mut [u64], n: usize, t: &[u64; 64]) -> usize
 {
     let entries = undo_logs::entry_count(t);
     let mut m = n;
-    let mut j = 0;
-    while j < entries {
-        let entry = undo_logs::entry_at(t, j);
-        m = reserve_entry(keys, m, entry);
-        j += 1;
+    for j in 0..entries {
+        m = reserve_entry(keys, m, undo_logs::entry_at(t, j));
     }
     m
 }
@@ -109,7 +100,7 @@ fn reserve_all(keys: &mut [u64], script: &[u64; 257], ts: &[[u64; 64]; 8]) -> us
 // Whether the cue needs a 257th slot of the script. The slots are counted only where there can be so many.
 pub fn script_full(script: &[u64; 257], ts: &[[u64; 64]; 8], key: u64) -> bool
     requires { ScriptFits script.now × Ordered 1 (script_in script.now) × TransactionsFit ts.now }
-    ensures { result ≡ script_full (some (added key))
+    ensures { result ≡ script_full (Some (added key))
         (reserved_in (map transaction_of ts.now) (script_in script.now)) }
 {
     let cues = script[SCRIPT_COUNT] as usize;

@@ -1,35 +1,34 @@
-use Rattle.std.proofs.Common.{ap, arith, drop, length, sym, ℕ, ◌+◌, ◌-◌, ◌<◌, ◌∙◌, ◌≤◌}
-use Rattle.lines.specs.Lines.{lines_of}
-use Rattle.numbered_lines.proofs.Seek.{seek_more, seek_none, seek_zero}
-use Rattle.numbered_lines.specs.Numbered.{seek}
-use Rattle.numbered_lines.specs.declared.Search.TheVariants.{Found}
+use Rattle.std.proofs.Common.{arith, ◌∙◌}
+use Rattle.numbered_lines.proofs.Seek.{line_here, line_behind, none_here}
 use Rattle.numbered_lines.proofs.seek_line.Goals as goal
 
 pub returns-then-left-eq0 : goal.returns-then-left-eq0
 returns-then-left-eq0 c =
-    let s = c.args.text.now in
-    let at = c.loop-at.at in
-    let left = c.loop-at.left in
-    let h : at < length s = omega arith in
-    let b = c.find_byte-end.ensures in (
-      ap (Found at) b.0
-          ∙ (sym (seek_zero s at left h c.if-left-eq0.true) ∙ c.loop-at.invariant),
-      omega arith,
-    )
+    let i = c.loop-line.invariant in
+    let h = line_here c.args.text.now c.loop-line.reader c.take_line.new.self _ c.take_line.ensures i.same_text
+    c.in-Some.line c.loop-line.left c.in-Some.is c.if-left-eq0.true in
+    record { is_the_line = h.0 ∙ i.so_far; within = h.1 }
 
-pub loop-at-preserved : goal.loop-at-preserved
-loop-at-preserved c =
-    let s = c.args.text.now in
-    let at = c.loop-at.at in
-    let left = c.loop-at.left in
-    let h : at < length s = omega arith in
-    let b = c.find_byte-end.ensures in
-    ap (λ (e : ℕ). seek (e + 1) (lines_of (drop (e + 1) s)) (left - 1)) b.0
-    ∙ (sym (seek_more s at left h c.if-left-eq0.false) ∙ c.loop-at.invariant)
+pub loop-line-preserved : goal.loop-line-preserved
+loop-line-preserved c =
+    let i = c.loop-line.invariant in
+    let h = line_behind c.args.text.now c.loop-line.reader c.take_line.new.self _ c.take_line.ensures i.same_text
+    c.in-Some.line c.loop-line.left c.in-Some.is c.if-left-eq0.false in
+    record { same_text = h.0; so_far = h.3 ∙ i.so_far }
+
+pub loop-line-smaller : goal.loop-line-smaller
+loop-line-smaller c =
+    let i = c.loop-line.invariant in
+    let h = line_behind c.args.text.now c.loop-line.reader c.take_line.new.self _ c.take_line.ensures i.same_text
+    c.in-Some.line c.loop-line.left c.in-Some.is c.if-left-eq0.false in
+    omega (arith, h.1, h.2)
 
 pub returns : goal.returns
 returns c =
-    let s = c.args.text.now in
-    let at = c.loop-at.at in
-    let h : length s ≤ at = omega arith in
-    (sym (seek_none s at c.loop-at.left h) ∙ c.loop-at.invariant, tt)
+    let i = c.loop-line.invariant in
+    record {
+      is_the_line =
+          none_here c.args.text.now c.loop-line.reader c.take_line.new.self _ c.take_line.ensures i.same_text
+          c.loop-line.left c.in_default.is ∙ i.so_far;
+      within = tt;
+    }

@@ -2,7 +2,7 @@
 use Rattle.std.proofs.Common.{arith, get_or, ◌-◌, ◌∙◌, ◌≡◌}
 use Rattle.numbers.proofs.FieldLaws.{digits_good, digits_none, digits_within, digits_zero, many_passed}
 use Rattle.numbers.proofs.leading_number.Goals as goal
-use Rattle.numbers.proofs.leading_number.Goals.{else-s-at-eq48-via-then-s-at-eq48+else-number-at-gt1, else-s-at-eq48-via-else-s-at-eq48}
+use Rattle.numbers.proofs.leading_number.Goals.{else-s-at-eq-ZERO-via-then-s-at-eq-ZERO+else-number-at-gt1, else-s-at-eq-ZERO-via-else-s-at-eq-ZERO}
 
 pub returns-in_err-number-clause-is_leading : goal.returns-in_err-number-clause-is_leading
 returns-in_err-number-clause-is_leading c =
@@ -19,16 +19,16 @@ bounds-s-at c =
 
 pub returns-then-number-at-gt1-clause-is_leading : goal.returns-then-number-at-gt1-clause-is_leading
 returns-then-number-at-gt1-clause-is_leading c =
-    digits_zero c.args.s.now c.args.at _ _ c.in_ok-number.ensures c.if-number-at.false (λ e. omega arith) c.if-s-at-eq48.true
+    digits_zero c.args.s.now c.args.at _ _ c.in_ok-number.ensures c.if-number-at.false (λ e. omega arith) c.if-s-at-eq-ZERO.true
 
 pub returns : goal.returns
 returns c =
     let s = c.args.s.now in
     let at = c.args.at in
     let few : (c.in_ok-number.number.end - at ≡ 1 → ⊥) → get_or s at 0 ≡ 48 → ⊥ =
-    elim c.else-s-at-eq48.branch [
-      | else-s-at-eq48-via-then-s-at-eq48+else-number-at-gt1 w ↦ (λ one _. one (let e : c.in_ok-number.number.end - at ≡ 1 = omega (arith, c.in_ok-number.ensures.ends) in e))
-      | else-s-at-eq48-via-else-s-at-eq48 w ↦ (λ _ zero. w.if-s-at-eq48.false zero)
+    elim c.else-s-at-eq-ZERO.branch [
+      | else-s-at-eq-ZERO-via-then-s-at-eq-ZERO+else-number-at-gt1 w ↦ (λ one _. one (let e : c.in_ok-number.number.end - at ≡ 1 = omega (arith, c.in_ok-number.ensures.ends) in e))
+      | else-s-at-eq-ZERO-via-else-s-at-eq-ZERO w ↦ (λ _ zero. w.if-s-at-eq-ZERO.false zero)
     ] in
     let g = digits_good s at _ _ c.in_ok-number.ensures c.if-number-at.false few in
     record { is_leading = g.0; fits = g.1 }

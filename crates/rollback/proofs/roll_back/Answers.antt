@@ -1,6 +1,5 @@
 -- `rollback::roll_back` meets its contract.
 use Rattle.boosting.specs.Rows.{roll_back}
-use Rattle.undo_logs.specs.Code.{model_newest}
 use Rattle.store_words.proofs.Performed as words
 use Rattle.rollback.proofs.RolledBack as laws
 use Rattle.rollback.proofs.roll_back.Goals as goal
@@ -19,7 +18,7 @@ undo_newest-requires-clause-has_room c =
     let q = c.args.queue.now in
     let ts = c.args.ts.now in
     let e = c.args.e in
-    laws.roll_back_room x q ts e c.requires.0 c.requires.1 (model_newest c.newest_entry-newest.result) c.newest_entry-newest.ensures
+    laws.roll_back_room x q ts e c.requires.0 c.requires.1 c.newest_entry-newest.result c.newest_entry-newest.ensures
 
 pub unwind-requires-clause-words_fit : goal.unwind-requires-clause-words_fit
 unwind-requires-clause-words_fit c =
@@ -43,6 +42,6 @@ returns c =
     let q = c.args.queue.now in
     let ts = c.args.ts.now in
     let e = c.args.e in
-    laws.rolled_back_done x q ts e c.requires.0 c.requires.1 c.requires.2 (model_newest c.newest_entry-newest.result) c.newest_entry-newest.ensures
+    laws.rolled_back_done x q ts e c.requires.0 c.requires.1 c.requires.2 c.newest_entry-newest.result c.newest_entry-newest.ensures
     c.undo_newest.new.script c.undo_newest.new.queue c.unwind.new.t c.entry_count.result c.undo_newest.ensures c.unwind.ensures
     c.entry_count.ensures.0

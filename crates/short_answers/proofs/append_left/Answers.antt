@@ -7,5 +7,5 @@ use Rattle.short_answers.proofs.append_left.Goals as goal
 pub returns-then-n-lt10 : goal.returns-then-n-lt10
 returns-then-n-lt10 c =
     let a = c.args in
-    digit_line a.buf.now c.put_four.new.buf c.put_last_digit.new.buf (bytes "left") a.at a.n c.requires
-    (omega arith) c.if-n-lt10.true c.put_four.ensures c.put_last_digit.ensures
+    digit_line a.buf.now c.put_bytes.new.buf c.put_last_digit.new.buf (bytes "left") a.at a.n c.requires
+    (omega arith) c.if-n-lt10.true c.put_bytes.ensures c.put_last_digit.ensures

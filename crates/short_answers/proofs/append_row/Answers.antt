@@ -7,5 +7,5 @@ use Rattle.short_answers.proofs.append_row.Goals as goal
 pub returns-then-n-lt10 : goal.returns-then-n-lt10
 returns-then-n-lt10 c =
     let a = c.args in
-    digit_line a.buf.now c.put_refused_word.new.buf c.put_last_digit.new.buf (bytes "refused")
-    a.at a.n c.requires (omega arith) c.if-n-lt10.true c.put_refused_word.ensures c.put_last_digit.ensures
+    digit_line a.buf.now c.put_bytes.new.buf c.put_last_digit.new.buf (bytes "refused") a.at a.n c.requires
+    (omega arith) c.if-n-lt10.true c.put_bytes.ensures c.put_last_digit.ensures
