@@ -15,8 +15,8 @@ use Rattle.tables.specs.Table.{member_of, insert_of, delete_of, put_once_of}
 use Rattle.step_words.specs.Word.{word_of}
 use Rattle.answers.specs.declared.Answer.{Answer}
 use Rattle.answers.specs.declared.Answer.TheVariants.{Ok, Yes, No, Empty, Cue, Left, Refused}
-use Rattle.scripts.specs.Script.{read_from, script_of}
-use Rattle.scripts.specs.declared.reading.Outcome.TheVariants.{Accepted}
+use Rattle.std.specs.Result.{IsOk}
+use Rattle.scripts.specs.Script.{read_from, script_of, script_or_empty}
 use Rattle.boosting.specs.Object.{State, effect, reply}
 use Rattle.boosting.specs.Undo.{entry_of, inverse}
 use Rattle.boosting.specs.Locks.{lock_of, no_locks, hold, conflicts}
@@ -70,11 +70,11 @@ use Rattle.boosting.specs.Acceptance.{
 
 -- ---- a test that fails refutes its theorem
 
-by_term_3 : Term3Rising → (c : Case) → (script_of c.start).0 ≡ Accepted → Term3At c
+by_term_3 : Term3Rising → (c : Case) → IsOk (script_of c.start) → Term3At c
 by_term_3 theorem c accepted = (accepted, theorem c.start accepted c.steps)
 
 by_keeping : OpenedIsSound → RunKeepsSound → (c : Case) → Sound (stepped c).store
-by_keeping begins keeps c = keeps (opened (script_of c.start).1) c.steps (begins c.start)
+by_keeping begins keeps c = keeps (opened (script_or_empty (script_of c.start))) c.steps (begins c.start)
 
 by_listing : OpenedIsSound → RunKeepsSound → ListingOnce → (c : Case) → EachOnce (listing (stepped c).store)
 by_listing begins keeps theorem c = theorem (stepped c).store (by_keeping begins keeps c)
@@ -169,10 +169,10 @@ unfolding transaction closed_transaction
 eight_closed d h zero = refl
 eight_closed d h (suc i) = ap (λ (ts : List Transaction). (get_or ts i closed_transaction).standing) h ∙ closed_at 8 i
 
-term_3_at : (c : Case) → (script_of c.start).0 ≡ Accepted
-    → EqualAnswers (heard (stepped c).past) (replies (started (script_of c.start).1) (fed (stepped c).past))
+term_3_at : (c : Case) → IsOk (script_of c.start)
+    → EqualAnswers (heard (stepped c).past) (replies (started (script_or_empty (script_of c.start))) (fed (stepped c).past))
     → EqualStates (recover (stepped c).store rising).state
-    (replay (started (script_of c.start).1) (fed (stepped c).past))
+    (replay (started (script_or_empty (script_of c.start))) (fed (stepped c).past))
     → (recover (stepped c).store rising).transactions ≡ replicate 8 closed_transaction
     → Term3At c
 term_3_at c p a s t = (

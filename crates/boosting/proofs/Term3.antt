@@ -13,7 +13,7 @@ use Rattle.refusals.specs.declared.Refusal.{Refusal}
 use Rattle.steps.specs.Step.{step_of}
 use Rattle.answers.specs.declared.Answer.{Answer}
 use Rattle.tables.specs.Table.{member_of}
-use Rattle.scripts.specs.Script.{script_of}
+use Rattle.scripts.specs.Script.{script_of, script_or_empty}
 use Rattle.scripts.proofs.Theorems.{read_is_sound}
 use Rattle.boosting.specs.Object.{Call, State, effect, reply, answer_of}
 use Rattle.boosting.specs.Store.{
@@ -298,16 +298,16 @@ Same-replies s (i ∷ t) q =
 -- ---- the theorem
 
 kept_at : (text : List ℕ) (lines : List (List ℕ))
-    → Kept (started (script_of text).1) (run (opened (script_of text).1) lines)
+    → Kept (started (script_or_empty (script_of text))) (run (opened (script_or_empty (script_of text))) lines)
 kept_at text lines =
-    let script = (script_of text).1 in
+    let script = script_or_empty (script_of text) in
     run_keeps (started script) (started-Good script (read_is_sound text).rising) lines (begun (opened script))
     (opened_keeps script)
 
 pub term_3 : Term3
 unfolding fed heard
 term_3 text accepted lines order covers =
-    let script = (script_of text).1 in
+    let script = script_or_empty (script_of text) in
     let start = started script in
     let g = started-Good script (read_is_sound text).rising in
     let k = kept_at text lines in
@@ -339,6 +339,6 @@ rising_has (suc (suc (suc (suc (suc (suc (suc (suc (suc e))))))))) h = absurd (o
 
 pub term_3_rising : Term3Rising
 term_3_rising text accepted lines =
-    let d = (run (opened (script_of text).1) lines).store in
+    let d = (run (opened (script_or_empty (script_of text))) lines).store in
     let v = (kept_at text lines).invariant in
     term_3 text accepted lines rising (λ e n. rising_has e (valid_range e (unclosed_valid d e v.eight n)))

@@ -8,8 +8,8 @@ use Rattle.refusals.specs.declared.Refusal.TheVariants.{Malformed as MalformedLi
 use Rattle.lines.specs.Ascii.{bytes}
 use Rattle.digits.specs.Digits.{digits_of}
 use Rattle.answers.specs.declared.Answer.TheVariants.{Ok, Yes, No, Left, Refused}
-use Rattle.scripts.specs.declared.reading.Outcome.TheVariants.{Accepted}
-use Rattle.scripts.specs.Script.{script_of}
+use Rattle.std.specs.Result.{IsOk}
+use Rattle.scripts.specs.Script.{script_of, script_or_empty}
 use Rattle.boosting.specs.Store.{opened, transaction}
 use Rattle.boosting.specs.Room.{reserved, queue_slots}
 use Rattle.boosting.specs.Run.{Run, run, answers}
@@ -23,13 +23,13 @@ pub record Case : Type 0 where
   pub steps : List (List ℕ)
 
 abbrev pub stepped : Case → Run
-stepped c = run (opened (script_of c.start).1) c.steps
+stepped c = run (opened (script_or_empty (script_of c.start))) c.steps
 
 -- `Term3Rising` at one case: its premise holds there, and what it says
 abbrev pub Term3At : Case → Type 0
 Term3At c =
-    ((script_of c.start).0 ≡ Accepted)
-    × Serializable (script_of c.start).1 (stepped c).past (recover (stepped c).store rising)
+    IsOk (script_of c.start)
+    × Serializable (script_or_empty (script_of c.start)) (stepped c).past (recover (stepped c).store rising)
 
 -- the text of the n cues of module 1, pin 1 at times below n
 abbrev pub cues_below : ℕ → List ℕ

@@ -8,8 +8,8 @@ use Rattle.steps.specs.Step.{step_of}
 use Rattle.answers.specs.declared.Answer.{Answer}
 use Rattle.answers.specs.declared.Answer.TheVariants.{Ok, Left, Refused}
 use Rattle.tables.specs.Table.{Ordered, member_of, insert_of, delete_of, put_once_of}
-use Rattle.scripts.specs.declared.reading.Outcome.TheVariants.{Accepted}
-use Rattle.scripts.specs.Script.{script_of}
+use Rattle.std.specs.Result.{IsOk}
+use Rattle.scripts.specs.Script.{script_of, script_or_empty}
 use Rattle.scripts.specs.Theorems.{SoundScript}
 use Rattle.boosting.specs.Object.{
   Call,
@@ -209,22 +209,22 @@ pub record Serializable (script : List ℕ) (past : List Event) (recovered : Sto
 -- unclosed ones
 abbrev pub Term3 : Type 0
 Term3 =
-    (text : List ℕ) → (script_of text).0 ≡ Accepted → (lines : List (List ℕ)) (order : List ℕ)
-    → Covers (run (opened (script_of text).1) lines).store order
-    → Serializable (script_of text).1 (run (opened (script_of text).1) lines).past
-    (recover (run (opened (script_of text).1) lines).store order)
+    (text : List ℕ) → IsOk (script_of text) → (lines : List (List ℕ)) (order : List ℕ)
+    → Covers (run (opened (script_or_empty (script_of text))) lines).store order
+    → Serializable (script_or_empty (script_of text)) (run (opened (script_or_empty (script_of text))) lines).past
+    (recover (run (opened (script_or_empty (script_of text))) lines).store order)
 
 -- and so with rising numbers, as the program recovers
 abbrev pub Term3Rising : Type 0
 Term3Rising =
-    (text : List ℕ) → (script_of text).0 ≡ Accepted → (lines : List (List ℕ))
-    → Serializable (script_of text).1 (run (opened (script_of text).1) lines).past
-    (recover (run (opened (script_of text).1) lines).store rising)
+    (text : List ℕ) → IsOk (script_of text) → (lines : List (List ℕ))
+    → Serializable (script_or_empty (script_of text)) (run (opened (script_or_empty (script_of text))) lines).past
+    (recover (run (opened (script_or_empty (script_of text))) lines).store rising)
 
 -- ---- what opening and stepping keep
 
 abbrev pub OpenedIsSound : Type 0
-OpenedIsSound = (text : List ℕ) → Sound (opened (script_of text).1)
+OpenedIsSound = (text : List ℕ) → Sound (opened (script_or_empty (script_of text)))
 
 abbrev pub SteppingKeepsSound : Type 0
 SteppingKeepsSound = (d : Store) (line : List ℕ) → Sound d → Sound (step_line d line).store

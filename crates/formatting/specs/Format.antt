@@ -1,37 +1,31 @@
 -- What formatting a script text answers, and what the formatter prints. Assumes nothing.
-use Rattle.std.specs.Prelude.{ℕ, List}
+use Rattle.std.specs.Prelude.{ℕ, List, Result, Ok, Err}
 use Rattle.refusals.specs.Refusal.{refusal_number}
+use Rattle.refusals.specs.declared.Refusal.{Refusal}
+use Rattle.refusals.specs.declared.RefusedText.{RefusedText}
 use Rattle.buffers.specs.Written.{written_at}
-use Rattle.buffers.specs.declared.Written.{Written}
-use Rattle.buffers.specs.declared.Written.TheVariants.{Upto}
-use Rattle.buffers.specs.declared.Written.TheVariants.{Refused as RefusedWrite}
 use Rattle.lines.specs.Ascii.{bytes}
 use Rattle.records.specs.Record.{record_text}
-use Rattle.scripts.specs.declared.reading.Outcome.{Outcome}
-use Rattle.scripts.specs.declared.reading.Outcome.TheVariants.{Accepted, Refused}
 use Rattle.scripts.specs.Script.{script_of}
 use Rattle.scripts.specs.ScriptText.{text_of}
-use Rattle.formatting.specs.declared.Formatted.{Formatted}
-use Rattle.formatting.specs.declared.Formatted.TheVariants.{Normal}
-use Rattle.formatting.specs.declared.Formatted.TheVariants.{Refused as RefusedFormat}
 
--- what the writer answered, as the formatter's answer
-abbrev pub normal : Written → Formatted
-normal (Upto n) = Normal n
-normal (RefusedWrite r) = RefusedFormat r 0
+-- what the writer answered, as the formatter's answer: no line is to blame for a short buffer
+abbrev pub at_no_line : Result ℕ Refusal → Result ℕ RefusedText
+at_no_line (Ok n) = Ok n
+at_no_line (Err r) = Err (record { refusal = r; line = 0 })
 
 -- the normal form at the front of the buffer; or, where the text or the buffer is refused, the buffer as it was
-abbrev pub format_with : Outcome → List ℕ → List ℕ → Formatted × List ℕ
-format_with Accepted t buf = (normal (written_at buf 0 (text_of t)).0, (written_at buf 0 (text_of t)).1)
-format_with (Refused r n) t buf = (RefusedFormat r n, buf)
+abbrev pub format_with : Result (List ℕ) RefusedText → List ℕ → Result ℕ RefusedText × List ℕ
+format_with (Ok t) buf = (at_no_line (written_at buf 0 (text_of t)).0, (written_at buf 0 (text_of t)).1)
+format_with (Err why) buf = (Err why, buf)
 
-unfoldable pub format_of : List ℕ → List ℕ → Formatted × List ℕ
-format_of s buf = format_with (script_of s).0 (script_of s).1 buf
+unfoldable pub format_of : List ℕ → List ℕ → Result ℕ RefusedText × List ℕ
+format_of s buf = format_with (script_of s) buf
 
 -- what the formatter prints: the normal form, or `refused,n,line` and LF
-abbrev pub report_with : Outcome → List ℕ → List ℕ
-report_with Accepted t = text_of t
-report_with (Refused r n) t = record_text (bytes "refused") (refusal_number r) n
+abbrev pub report_with : Result (List ℕ) RefusedText → List ℕ
+report_with (Ok t) = text_of t
+report_with (Err why) = record_text (bytes "refused") (refusal_number why.refusal) why.line
 
 unfoldable pub report_of : List ℕ → List ℕ
-report_of s = report_with (script_of s).0 (script_of s).1
+report_of s = report_with (script_of s)

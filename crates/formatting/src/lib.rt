@@ -8,45 +8,29 @@ ghost use Rattle.std.specs.Prelude.{◌≡◌};
 ghost use Rattle.buffers.specs.Written.{written_at};
 ghost use Rattle.formatting.specs.Format.{format_of, report_of};
 
-use buffers::Written;
 use records::write_record;
-use refusals::{Refusal, refusal_number};
+use refusals::{Refusal, RefusedText};
 use script_texts::write_script;
-use scripts::{Outcome, read_script};
+use scripts::read_script;
 
-#[derive(Drop)]
-pub enum Formatted {
-    // How many bytes the normal form has.
-    Normal(usize),
-    // The row that the text meets, with the line; or 14 with line 0, where the buffer is too short.
-    Refused(Refusal, usize),
-}
-
-// Reads a script text and writes its normal form to the front of the buffer.
-pub fn format_script(buf: &mut [u8], text: &[u8]) -> Formatted
+// Reads a script text and writes its normal form to the front of the buffer: how many bytes that has. Refused: the row
+// that the text meets, with the line; or 14 with line 0, where the buffer is too short.
+pub fn format_script(buf: &mut [u8], text: &[u8]) -> Result<usize, RefusedText>
     ensures { (result, buf.new) ≡ format_of text.now buf.old }
 {
-    let reading = read_script(text);
-    let outcome = reading.outcome;
-    if let Outcome::Refused(refusal, line) = outcome {
-        return Formatted::Refused(refusal, line);
-    }
-    let script = reading.script;
-    match write_script(buf, script) {
-        Written::Upto(end) => Formatted::Normal(end),
-        Written::Refused(refusal) => Formatted::Refused(refusal, 0),
-    }
+    let script = read_script(text)?;
+    write_script(buf, script).map_err(|refusal| RefusedText { refusal, line: 0 })
 }
 
 // Writes what the formatter prints of a text: its normal form, or the line `refused,n,line`.
-pub fn write_report(buf: &mut [u8], text: &[u8]) -> Written
+pub fn write_report(buf: &mut [u8], text: &[u8]) -> Result<usize, Refusal>
     ensures { (result, buf.new) ≡ written_at buf.old 0 (report_of text.now) }
 {
-    let reading = read_script(text);
-    let outcome = reading.outcome;
-    if let Outcome::Refused(refusal, line) = outcome {
-        return write_record(buf, 0, b"refused", refusal_number(refusal), line as u64);
+    match read_script(text) {
+        Ok(script) => write_script(buf, script),
+        Err(refused) => {
+            let number = refused.refusal.number();
+            write_record(buf, 0, b"refused", number, refused.line as u64)
+        }
     }
-    let script = reading.script;
-    write_script(buf, script)
 }

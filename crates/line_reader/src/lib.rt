@@ -30,8 +30,8 @@ impl<'a> LineReader<'a> {
         LineReader { text, at: 0 }
     }
 
-    // Where the line at the reader's place lies; and the place moves on behind it. At or past the end there is none, and
-    // the place stays.
+    // Where the line at the reader's place lies; and the place moves on behind it. At or past the end there is no line,
+    // and the place stays.
     pub fn take_line(&mut self) -> Option<Line>
         ensures { Taken self.old self.new result }
     {

@@ -1,7 +1,8 @@
 -- What is proved of these definitions, beside the functions' contracts: that `lines_of` is what a reader means by the
 -- lines of a text, and that `line_at` reads them. `proofs/Theorems.antt` has the proofs.
 -- Assumes nothing.
-use Rattle.std.specs.Prelude.{ℕ, zero, suc, ◌-◌, ◌≤◌, if◌then◌else◌, ◌≡◌, nat_eq, length, take, drop, Option, Some, None}
+use Rattle.std.specs.Prelude.{ℕ, zero, suc, ◌-◌, ◌≤◌, if◌then◌else◌, ◌≡◌, nat_eq, length, take, drop}
+use Rattle.std.specs.Prelude.{Option, Some, None}
 use mathlib.Core.List.{List, [], ◌∷◌, ◌++◌, Memᴰ}
 use Rattle.lines.specs.Lines.{lines_of}
 use Rattle.lines.specs.Line.{line_at}

@@ -1,5 +1,6 @@
 -- The field that stands at a place of a text: its number, and the place where it ends. Assumes nothing.
-use Rattle.std.specs.Prelude.{ℕ, ◌+◌, ◌≤◌, ◌<◌, ◌≡◌, if◌then◌else◌, List, [], ◌∷◌, nat_lt, length, take, drop, Option, Some, None, IfSome}
+use Rattle.std.specs.Prelude.{ℕ, ◌+◌, ◌≤◌, ◌<◌, ◌≡◌, if◌then◌else◌, List, [], ◌∷◌, nat_lt, length, take, drop}
+use Rattle.std.specs.Prelude.{Option, Some, None, IfSome}
 use Rattle.lines.specs.Lines.{up_to}
 use Rattle.numbers.specs.declared.Field.{Field}
 use Rattle.numbers.specs.Number.{value_from, number_of}

@@ -1,5 +1,6 @@
 -- The number that the bytes of a field stand for. Assumes nothing.
-use Rattle.std.specs.Prelude.{ℕ, ◌+◌, ◌*◌, ◌-◌, ◌<◌, if◌then◌else◌, List, [], ◌∷◌, nat_lt, nat_eq, length, slice_index, Option, Some, None, IfSome}
+use Rattle.std.specs.Prelude.{ℕ, ◌+◌, ◌*◌, ◌-◌, ◌<◌, if◌then◌else◌, List, [], ◌∷◌, nat_lt, nat_eq, length, slice_index}
+use Rattle.std.specs.Prelude.{Option, Some, None, IfSome}
 
 -- the value of digits behind those that stand for n; none where a byte is no digit
 unfoldable pub value_from : ℕ → List ℕ → Option ℕ

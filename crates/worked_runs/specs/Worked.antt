@@ -2,14 +2,13 @@
 -- the queue that recovery with rising numbers leaves. Those marked † are one list with one theorem over it; the whole
 -- run, and the unmarked ones with the small examples of the rows and the traps, are two more. Proved in
 -- `proofs/Worked.antt`. Assumes nothing.
-use Rattle.std.specs.Prelude.{ℕ, zero, suc, ◌+◌, ◌≡◌, List, [], ◌∷◌, ◌++◌, map}
+use Rattle.std.specs.Prelude.{ℕ, zero, suc, ◌+◌, ◌≡◌, Bool, true, List, [], ◌∷◌, ◌++◌, map}
 use Prim.Native.String.{String}
 use Rattle.lines.specs.Ascii.{bytes}
 use Rattle.digits.specs.Digits.{digits_of}
 use Rattle.answers.specs.Answer.{answer_text}
-use Rattle.scripts.specs.declared.reading.Outcome.{Outcome}
-use Rattle.scripts.specs.declared.reading.Outcome.TheVariants.{Accepted}
-use Rattle.scripts.specs.Script.{script_of}
+use Rattle.std.specs.Result.{is_ok}
+use Rattle.scripts.specs.Script.{script_of, script_or_empty}
 use Rattle.scripts.specs.ScriptText.{text_of}
 use Rattle.boosting.specs.Store.{opened}
 use Rattle.boosting.specs.Run.{run, answers}
@@ -328,18 +327,18 @@ unmarked =
 
 -- what the model makes of a start script and steps, or what the paper says that it makes
 pub record Result : Type 0 where
-  pub start : Outcome
+  pub accepted : Bool
   pub answers : List (List ℕ)
   pub script : List ℕ
   pub queue : List ℕ
 
 abbrev pub result_of : Worked → Result
 result_of w =
-    let d = opened (script_of w.start).1 in
+    let d = opened (script_or_empty (script_of w.start)) in
     let lines = map (λ x. x.step) w.steps in
     let left = (recover (run d lines).store rising).state in
     record {
-      start = (script_of w.start).0;
+      accepted = is_ok (script_of w.start);
       answers = map answer_text (answers d lines);
       script = text_of left.script;
       queue = text_of left.queue;
@@ -347,7 +346,7 @@ result_of w =
 
 abbrev pub expected_of : Worked → Result
 expected_of w = record {
-  start = Accepted;
+  accepted = true;
   answers = map (λ x. x.answer) w.steps;
   script = w.script;
   queue = w.queue;

@@ -2,13 +2,10 @@
 use Rattle.formatting.proofs.Laws.{report_accepted, report_refused}
 use Rattle.formatting.proofs.write_report.Goals as goal
 
-pub returns-in-Refused : goal.returns-in-Refused
-returns-in-Refused c =
-    let a = c.args in
-    report_refused a.text.now _ a.buf.now _ c.read_script-reading.ensures _ _ _ _ c.in-Refused.is
-    c.refusal_number.ensures.0 c.write_record.ensures
+pub returns-in-Ok : goal.returns-in-Ok
+returns-in-Ok c = report_accepted c.args.text.now c.args.buf.now _ _ c.in-Ok.ensures c.write_script.ensures
 
-pub returns : goal.returns
-returns c =
-    let a = c.args in
-    report_accepted a.text.now _ a.buf.now _ c.read_script-reading.ensures _ c.in_default.is c.write_script.ensures
+pub returns-in-Err : goal.returns-in-Err
+returns-in-Err c =
+    report_refused c.args.text.now c.args.buf.now _ c.in-Err.refused _ c.in-Err.ensures c.number-number.ensures.is_the_row
+    c.write_record.ensures

@@ -1,23 +1,32 @@
-use Rattle.std.proofs.Common.{ap, arith, get_or, length, ◌<◌, ◌≡◌, ◌≤◌}
-use Rattle.cue_texts.specs.CueText.{cue_text}
-use Rattle.cues.specs.Cue.{cue_of}
+use Rattle.std.proofs.Common.{ap, arith, length}
 use Rattle.cues.specs.declared.Cue.{Cue}
-use Rattle.script_texts.proofs.Laws.{text_end, text_more_length}
-use Rattle.scripts.specs.Script.{keys_in}
+use Rattle.cue_texts.specs.CueText.{cue_text}
+use Rattle.scripts.specs.ScriptText.{text_of}
+use Rattle.script_texts.proofs.Laws.{keys_at_most, text_end, text_more_length}
 use Rattle.script_texts.proofs.cues_length.Goals as goal
 
-pub loop-i-preserved : goal.loop-i-preserved
-loop-i-preserved c =
-    let a = c.args in
-    let h : c.loop-i.i < length (keys_in a.keys.now a.n) = omega arith in
-    let e : length (cue_text c.of_key.result) ≡ length (cue_text (cue_of (get_or a.keys.now c.loop-i.i 0)))
-    = ap (λ (x : Cue). length (cue_text x)) c.of_key.ensures in
-    let t = text_more_length a.keys.now a.n c.loop-i.i h in
-    let r = c.cue_length-sum.ensures in
-    (omega arith, c.loop-i.invariant.1, c.loop-i.invariant.2, c.loop-i.invariant.3, omega (arith, r.1), omega (arith, r.0, c.loop-i.invariant.5))
+pub overflow_add-sum : goal.overflow_add-sum
+overflow_add-sum c =
+    let few = ap length c.keys_in-counted.ensures in
+    omega (arith, few, keys_at_most c.args.keys.now c.args.n, c.cue_length-sum.ensures.short)
 
-pub returns : goal.returns
-returns c =
-    let a = c.args in
-    let h : length (keys_in a.keys.now a.n) ≤ c.loop-i.i = omega arith in
-    omega (arith, ap length (text_end (keys_in a.keys.now a.n) c.loop-i.i h))
+pub loop-key-preserved : goal.loop-key-preserved
+loop-key-preserved c =
+    let size = ap (λ (x : Cue). length (cue_text x)) c.of_key.ensures in
+    let more = text_more_length c.keys_in-counted.result.now c.loop-key.key-index c.loop-key-test.true in
+    let step = c.cue_length-sum.ensures in
+    record {
+      so_far = omega (arith, size, more, step.counted, c.loop-key.invariant.so_far);
+      few = omega (arith, step.short, c.loop-key.invariant.few);
+    }
+
+pub returns-clause-counted : goal.returns-clause-counted
+returns-clause-counted c =
+    let keys = c.keys_in-counted.result.now in
+    let end = ap length (text_end keys c.loop-key.key-index (omega arith)) in
+    let all = ap (λ ks. length (text_of ks)) c.keys_in-counted.ensures in
+    omega (arith, end, all, c.loop-key.invariant.so_far)
+
+pub returns-clause-at_most : goal.returns-clause-at_most
+returns-clause-at_most c =
+    omega (arith, ap length c.keys_in-counted.ensures, keys_at_most c.args.keys.now c.args.n, c.loop-key.invariant.few)
