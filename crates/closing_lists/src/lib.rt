@@ -12,7 +12,7 @@ ghost use Rattle.scripts.specs.Script.{keys_in};
 ghost use Rattle.store_words.specs.Words.{state_of, ScriptFits, QueueFits};
 ghost use Rattle.closing_lists.specs.Closing.{list_text, closing_text};
 
-use buffers::{Written, fits};
+use buffers::fits;
 use digits::digit_count;
 use refusals::Refusal;
 use script_texts::{cues_length, write_cues};
@@ -26,10 +26,10 @@ fn put_list(buf: &mut [u8], at: usize, word: &[u8], keys: &[u64], n: usize) -> u
     ensures { Put buf.old at (list_text word.now (keys_in keys.now n)) result
         buf.new }
 {
-    let Written::Upto(middle) = write_number_line(buf, at, word, n as u64) else {
+    let Ok(middle) = write_number_line(buf, at, word, n as u64) else {
         return at;
     };
-    let Written::Upto(end) = write_cues(buf, middle, keys, n) else {
+    let Ok(end) = write_cues(buf, middle, keys, n) else {
         return at;
     };
     end
@@ -66,14 +66,19 @@ pub fn closing_length(script: &[u64; 257], queue: &[u64; 65]) -> usize
 }
 
 // Writes both lists at a place of the buffer, if they fit there.
-pub fn write_closing(buf: &mut [u8], at: usize, script: &[u64; 257], queue: &[u64; 65]) -> Written
+pub fn write_closing(
+    buf: &mut [u8],
+    at: usize,
+    script: &[u64; 257],
+    queue: &[u64; 65],
+) -> Result<usize, Refusal>
     requires { ScriptFits script.now × QueueFits queue.now }
     ensures { (result, buf.new)
         ≡ written_at buf.old at (closing_text (state_of script.now queue.now)) }
 {
     if fits(buf.len(), at, closing_length(script, queue)) {
         let end = put_closing(buf, at, script, queue);
-        return Written::Upto(end);
+        return Ok(end);
     }
-    Written::Refused(Refusal::BufferTooShort)
+    Err(Refusal::BufferTooShort)
 }
