@@ -1,233 +1,148 @@
-// Admission: whether a request to the store is accepted, and the first row of the table that turns it away if not.
+// Admission: the rows of the table that turn a request away, in their order.
 //
-// The store is read where it stands (`store_words`) and nothing is changed. The search for a lock in the way
-// (`conflicts`) and the count of slots (`slots`) come last, as the rows do; a `requires` asks for what opening and
-// stepping establish of the words.
+// One function decides a group of rows, and leaves at the first that is met: rows 2 to 7 look at the request and at how
+// its transaction stands, rows 8 to 12 at what a call needs. The search for a lock in the way (`conflicts`) and the
+// count of slots (`slots`) come last, as the rows do. Nothing is changed.
 #![tactic(auto)]
 
 ghost use Rattle.std.specs.Prelude.{◌≡◌, ◌≤◌};
-ghost use Rattle.tables.specs.Table.{Ordered, member_of};
-ghost use Rattle.boosting.specs.Object.{reply};
+ghost use Rattle.boosting.specs.Object.{reply as reply_of};
 ghost use Rattle.boosting.specs.Undo.{entry_of};
-ghost use Rattle.boosting.specs.Rows.{when, call_rows, first_met, request, refusal_of};
-ghost use Rattle.undo_logs.specs.Code.{model_newest};
-ghost use Rattle.store_words.specs.Requests.{model_call, model_action};
-ghost use Rattle.store_words.specs.Words.{
-  ScriptFits,
-  QueueFits,
-  script_in,
-  state_of,
-  store_of,
-  StoreFits,
-};
+ghost use Rattle.boosting.specs.Rows.{cue_in_range, when, call_rows, first_met};
 ghost use Rattle.admission.specs.Answers.{
-  model_admission,
-  closed_rows,
-  open_step_rows,
-  aborting_rows,
-  open_rows,
+  admitted,
+  numbered,
+  numbered_in,
+  replied,
+  standing_rows,
+  step_rows,
   room_rows,
+  store_of,
 };
 
-use conflicts::{Blocker, find_blocker};
-use counted_tables::has_key;
+use conflicts::find_blocker;
 use refusals::Refusal;
+use shared_object::{SharedObject, entry_of, lock_of};
 use slots::{queue_full, script_full};
-use store_words::{Action, Call, QUEUE_COUNT, SCRIPT_COUNT, lock_of};
-use transactions::Standing;
-use undo_logs::{Entry, Newest};
+use transactions::Transaction;
+use vocabulary::{Action, Call, Entry, Reply, Request, Standing};
 
-#[derive(Drop)]
-pub enum Admission {
-    Accepted,
-    Refused(Refusal),
-}
-
-// Whether the cue is in the script.
-fn in_script(script: &[u64; 257], key: u64) -> bool
-    requires { ScriptFits script.now × Ordered 1 (script_in script.now) }
-    ensures { result ≡ member_of key (script_in script.now) }
+// Rows 3 to 6: a closed transaction can only begin, an aborting one only roll back, an open one all but these.
+#[inline(always)]
+#[tactic(auto, unfolding(boosting::specs::Rows::first_met))]
+fn try_standing(standing: Standing, action: Action) -> Result<(), Refusal>
+    ensures { result ≡ admitted (first_met (standing_rows standing action)) }
 {
-    has_key(script, SCRIPT_COUNT, key)
-}
-
-// The entry that the call would note, which would be the newest.
-fn entry_of(script: &[u64; 257], queue: &[u64; 65], call: Call) -> Newest
-    requires { ScriptFits script.now × Ordered 1 (script_in script.now) × QueueFits queue.now }
-    ensures { model_newest result
-        ≡ entry_of (model_call call) (reply (model_call call) (state_of script.now queue.now)) }
-{
-    match call {
-        Call::Add(key) => {
-            if in_script(script, key) {
-                return Newest::Nothing;
+    match standing {
+        Standing::Closed => match action {
+            Action::Begin => Ok(()),
+            Action::Commit | Action::Abort | Action::RollBack | Action::OnObject(_, _) => {
+                Err(Refusal::NotBegun)
             }
-            Newest::Entry(Entry::Added(key))
-        }
-        Call::Remove(key) => {
-            if in_script(script, key) {
-                return Newest::Entry(Entry::Removed(key));
-            }
-            Newest::Nothing
-        }
-        Call::Has(_) => Newest::Nothing,
-        Call::Push(key) => Newest::Entry(Entry::Pushed(key)),
-        Call::Min => Newest::Nothing,
-        Call::Take => {
-            if queue[QUEUE_COUNT] == 0 {
-                return Newest::Nothing;
-            }
-            Newest::Entry(Entry::Taken(queue[0]))
-        }
+        },
+        Standing::Open => match action {
+            Action::Begin => Err(Refusal::AlreadyBegun),
+            Action::RollBack => Err(Refusal::NotAborting),
+            Action::Commit | Action::Abort | Action::OnObject(_, _) => Ok(()),
+        },
+        Standing::Aborting => match action {
+            Action::Begin => Err(Refusal::AlreadyBegun),
+            Action::RollBack => Ok(()),
+            Action::Commit | Action::Abort | Action::OnObject(_, _) => Err(Refusal::Aborting),
+        },
     }
 }
 
-// The refusal where its row is met.
-fn refused_when(met: bool, refusal: Refusal) -> Admission
-    ensures { model_admission result ≡ when met refusal }
+// Whether row 7 lets the action pass: only a call has a cue.
+#[inline(always)]
+fn cue_in_range(action: Action) -> bool
+    ensures { result ≡ cue_in_range action }
+{
+    match action {
+        Action::OnObject(in_range, _) => in_range,
+        Action::Begin | Action::Commit | Action::Abort | Action::RollBack => true,
+    }
+}
+
+// Rows 2 to 7: the number of the transaction, where none is met.
+#[inline(always)]
+pub fn try_step(transactions: &[Transaction; 8], request: Request) -> Result<usize, Refusal>
+    ensures { result
+        ≡ numbered
+        (first_met (step_rows (numbered_in transactions.now request.transaction).standing request))
+        request.transaction }
+{
+    if request.transaction < 1 || 8 < request.transaction {
+        return Err(Refusal::TransactionOutOfRange);
+    }
+    let e = request.transaction as usize;
+    try_standing(transactions[e - 1].standing(), request.action)?;
+    if !cue_in_range(request.action) {
+        return Err(Refusal::CueOutOfRange);
+    }
+    Ok(e)
+}
+
+// The refusal, where its row is met.
+#[inline(always)]
+fn refused_when(met: bool, refusal: Refusal) -> Result<(), Refusal>
+    ensures { result ≡ admitted (when met refusal) }
 {
     if met {
-        return Admission::Refused(refusal);
+        return Err(refusal);
     }
-    Admission::Accepted
+    Ok(())
 }
 
-// Rows 10 to 12: room for the entry that a call would note, and for its slot.
-fn room_refusal(
-    script: &[u64; 257],
-    queue: &[u64; 65],
-    ts: &[[u64; 64]; 8],
+// Rows 10 to 12: room for the entry that a call notes, and for its slot.
+#[inline(always)]
+fn try_entry(
+    object: &SharedObject,
+    transactions: &[Transaction; 8],
     e: usize,
-    entry: Newest,
-) -> Admission
-    requires { StoreFits script.now queue.now ts.now × (1 ≤ e) × (e ≤ 8) }
-    ensures { model_admission result
-        ≡ first_met
-        (room_rows (store_of script.now queue.now ts.now) e (model_newest entry)) }
+    noted: Option<Entry>,
+) -> Result<(), Refusal>
+    requires lowest { 1 ≤ e }
+    requires highest { e ≤ 8 }
+    ensures { result ≡ admitted (first_met (room_rows (store_of object.now transactions.now) e noted)) }
 {
-    let Newest::Entry(noted) = entry else {
-        return Admission::Accepted;
+    let Some(entry) = noted else {
+        return Ok(());
     };
-    if 16 <= undo_logs::entry_count(&ts[e - 1]) {
-        return Admission::Refused(Refusal::UndoLogFull);
+    if 16 <= transactions[e - 1].log().len() {
+        return Err(Refusal::UndoLogFull);
     }
-    match noted {
-        Entry::Added(key) => refused_when(script_full(script, ts, key), Refusal::ScriptFull),
-        Entry::Removed(_) => Admission::Accepted,
-        Entry::Pushed(_) => refused_when(queue_full(queue, ts), Refusal::QueueFull),
-        Entry::Taken(_) => Admission::Accepted,
+    match entry {
+        Entry::Added(key) => refused_when(
+            script_full(object, transactions, key),
+            Refusal::ScriptFull,
+        ),
+        Entry::Pushed(_) => refused_when(queue_full(object, transactions), Refusal::QueueFull),
+        Entry::Removed(_) | Entry::Taken(_) => Ok(()),
     }
 }
 
-// Rows 8 to 12, those of a call.
-fn call_refusal(
-    script: &[u64; 257],
-    queue: &[u64; 65],
-    ts: &[[u64; 64]; 8],
+// Rows 8 to 12, those of a call of transaction e: its reply, where none is met.
+#[inline(always)]
+pub fn try_call(
+    object: &SharedObject,
+    transactions: &[Transaction; 8],
     e: usize,
     call: Call,
-) -> Admission
-    requires { StoreFits script.now queue.now ts.now × (1 ≤ e) × (e ≤ 8) }
-    ensures { model_admission result
-        ≡ first_met
-        (call_rows (store_of script.now queue.now ts.now) e (model_call call)) }
+) -> Result<Reply, Refusal>
+    requires lowest { 1 ≤ e }
+    requires highest { e ≤ 8 }
+    ensures { result
+        ≡ replied (first_met (call_rows (store_of object.now transactions.now) e call)) (reply_of call object.now) }
 {
     let lock = lock_of(call);
-    let found = find_blocker(ts, e, lock);
-    if let Blocker::By(f) = found {
-        return Admission::Refused(Refusal::Blocked(f));
+    if let Some(holder) = find_blocker(transactions, e, lock) {
+        return Err(Refusal::Blocked(holder));
     }
-    if held_locks::locks_full(&ts[e - 1], lock) {
-        return Admission::Refused(Refusal::LocksFull);
+    if transactions[e - 1].locks().is_full(lock) {
+        return Err(Refusal::LocksFull);
     }
-    let entry = entry_of(script, queue, call);
-    room_refusal(script, queue, ts, e, entry)
-}
-
-// The rows of a closed transaction: it can only begin.
-fn closed_refusal(action: Action) -> Admission
-    ensures { model_admission result ≡ closed_rows (model_action action) }
-{
-    match action {
-        Action::Begin => Admission::Accepted,
-        Action::Commit => Admission::Refused(Refusal::NotBegun),
-        Action::Abort => Admission::Refused(Refusal::NotBegun),
-        Action::RollBack => Admission::Refused(Refusal::NotBegun),
-        Action::OnObject(_, _) => Admission::Refused(Refusal::NotBegun),
-    }
-}
-
-// The rows of an aborting transaction: it can only roll back.
-fn aborting_refusal(action: Action) -> Admission
-    ensures { model_admission result ≡ aborting_rows (model_action action) }
-{
-    match action {
-        Action::Begin => Admission::Refused(Refusal::AlreadyBegun),
-        Action::Commit => Admission::Refused(Refusal::Aborting),
-        Action::Abort => Admission::Refused(Refusal::Aborting),
-        Action::RollBack => Admission::Accepted,
-        Action::OnObject(_, _) => Admission::Refused(Refusal::Aborting),
-    }
-}
-
-// The rows of an open transaction for a step that is no call.
-fn open_step_refusal(action: Action) -> Admission
-    ensures { model_admission result ≡ open_step_rows (model_action action) }
-{
-    match action {
-        Action::Begin => Admission::Refused(Refusal::AlreadyBegun),
-        Action::Commit => Admission::Accepted,
-        Action::Abort => Admission::Accepted,
-        Action::RollBack => Admission::Refused(Refusal::NotAborting),
-        Action::OnObject(_, _) => Admission::Accepted,
-    }
-}
-
-// The rows of an open transaction.
-fn open_refusal(
-    script: &[u64; 257],
-    queue: &[u64; 65],
-    ts: &[[u64; 64]; 8],
-    e: usize,
-    action: Action,
-) -> Admission
-    requires { StoreFits script.now queue.now ts.now × (1 ≤ e) × (e ≤ 8) }
-    ensures { model_admission result
-        ≡ first_met
-        (open_rows (store_of script.now queue.now ts.now) e (model_action action)) }
-{
-    let Action::OnObject(in_range, call) = action else {
-        return open_step_refusal(action);
-    };
-    if !in_range {
-        return Admission::Refused(Refusal::CueOutOfRange);
-    }
-    call_refusal(script, queue, ts, e, call)
-}
-
-// The first row that turns the request away: row 2 by the number, the others by how the transaction stands.
-pub fn refusal_of(
-    script: &[u64; 257],
-    queue: &[u64; 65],
-    ts: &[[u64; 64]; 8],
-    e: u64,
-    action: Action,
-) -> Admission
-    requires { StoreFits script.now queue.now ts.now }
-    ensures { model_admission result
-        ≡ refusal_of (store_of script.now queue.now ts.now)
-        (request e (model_action action)) }
-{
-    if e < 1 || 8 < e {
-        return Admission::Refused(Refusal::TransactionOutOfRange);
-    }
-    let n = e as usize;
-    let standing = transactions::standing_of(&ts[n - 1]);
-    if let Standing::Open = standing {
-        return open_refusal(script, queue, ts, n, action);
-    }
-    if let Standing::Closed = standing {
-        return closed_refusal(action);
-    }
-    aborting_refusal(action)
+    let reply = object.reply(call);
+    try_entry(object, transactions, e, entry_of(call, reply))?;
+    Ok(reply)
 }
