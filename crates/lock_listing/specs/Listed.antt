@@ -3,14 +3,15 @@
 use Rattle.std.specs.Prelude.{ℕ, ◌≡◌, Bool}
 use mathlib.Core.List.{List, map, Perm, flatten}
 use Rattle.buffers.specs.Written.{written_at}
-use Rattle.buffers.specs.declared.Written.{Written}
+use Rattle.std.specs.Prelude.{Result}
+use Rattle.refusals.specs.declared.Refusal.{Refusal}
 use Rattle.boosting.specs.Store.{Transaction}
 use Rattle.boosting.specs.Listing.{lock_lines, mode_lines, modes_of, listing_of, listing_from}
 use Rattle.transactions.specs.View.{locks_of, transaction_of}
 
 -- the listing's lines, a permutation of them, at the place `at`, and every other byte as it was; or 14 and the buffer
 -- as it was
-pub record ListingWritten (ts : List Transaction) (at : ℕ) (before after : List ℕ) (r : Written) : Type 0 where
+pub record ListingWritten (ts : List Transaction) (at : ℕ) (before after : List ℕ) (r : Result ℕ Refusal) : Type 0 where
   pub lines : List (List ℕ)
   pub order : Perm lines (listing_from 1 ts)
   pub written : (r, after) ≡ written_at before at (flatten lines)

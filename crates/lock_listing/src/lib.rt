@@ -20,23 +20,15 @@ ghost use Rattle.lock_listing.specs.Listed.{
   listing_text,
 };
 
-use buffers::{Written, fits, write_bytes};
+use buffers::{fits, write_bytes};
 use cue_texts::{cue_length, write_cue};
 use cues::Cue;
 use digits::digit_count;
 use records::write_field;
 use refusals::Refusal;
+use transactions::{LOCK_COUNT, LOOKS, PUSHES, TAKES};
 
 const TRANSACTIONS: usize = 8;
-
-// Where a transaction's words have its modes and its count of cue locks; the cue locks come first.
-const PUSHES: usize = 57;
-
-const LOOKS: usize = 58;
-
-const TAKES: usize = 59;
-
-const LOCK_COUNT: usize = 60;
 
 // How many bytes the line of a cue lock has.
 fn lock_length(e: u64, key: u64) -> usize
@@ -103,10 +95,10 @@ fn put_start(buf: &mut [u8], at: usize, word: &[u8], e: u64) -> usize
     requires { at + length (word.now ++ field_text e 44) ≤ length buf.old }
     ensures { Put buf.old at (word.now ++ field_text e 44) result buf.new }
 {
-    let Written::Upto(middle) = write_bytes(buf, at, word) else {
+    let Ok(middle) = write_bytes(buf, at, word) else {
         return at;
     };
-    let Written::Upto(end) = write_field(buf, middle, e, 44) else {
+    let Ok(end) = write_field(buf, middle, e, 44) else {
         return at;
     };
     end
@@ -118,7 +110,7 @@ fn put_lock(buf: &mut [u8], at: usize, e: u64, key: u64) -> usize
     ensures { Put buf.old at (lock_line e key) result buf.new }
 {
     let middle = put_start(buf, at, b"lock,", e);
-    let Written::Upto(end) = write_cue(buf, middle, Cue::of_key(key)) else {
+    let Ok(end) = write_cue(buf, middle, Cue::of_key(key)) else {
         return at;
     };
     end
@@ -131,7 +123,7 @@ fn put_mode(buf: &mut [u8], at: usize, e: u64, held: bool, word: &[u8]) -> usize
 {
     if held {
         let middle = put_start(buf, at, b"mode,", e);
-        let Written::Upto(end) = write_bytes(buf, middle, word) else {
+        let Ok(end) = write_bytes(buf, middle, word) else {
             return at;
         };
         return end;
@@ -191,13 +183,13 @@ fn put_listing(buf: &mut [u8], at: usize, ts: &[[u64; 64]; 8]) -> usize
 }
 
 // Writes the lock listing at a place of the buffer, if it fits there.
-pub fn write_listing(buf: &mut [u8], at: usize, ts: &[[u64; 64]; 8]) -> Written
+pub fn write_listing(buf: &mut [u8], at: usize, ts: &[[u64; 64]; 8]) -> Result<usize, Refusal>
     requires { TransactionsFit ts.now }
     ensures { ListingWritten (map transaction_of ts.now) at buf.old buf.new result }
 {
     if fits(buf.len(), at, listing_length(ts)) {
         let end = put_listing(buf, at, ts);
-        return Written::Upto(end);
+        return Ok(end);
     }
-    Written::Refused(Refusal::BufferTooShort)
+    Err(Refusal::BufferTooShort)
 }

@@ -38,9 +38,10 @@ use Rattle.cues.specs.Cue.{cue_of}
 use Rattle.cue_texts.specs.CueText.{cue_text}
 use Rattle.cue_texts.proofs.Laws.{text_length}
 use Rattle.tables.proofs.Laws.{split}
-use Rattle.scripts.specs.declared.reading.Outcome.{Outcome}
-use Rattle.scripts.specs.declared.reading.Outcome.TheVariants.{Accepted, Refused as RefusedText}
-use Rattle.scripts.specs.Script.{script_of}
+use Rattle.std.specs.Prelude.{Result}
+use Rattle.std.specs.Prelude.{Ok as Read, Err as Unread}
+use Rattle.refusals.specs.declared.RefusedText.{RefusedText}
+use Rattle.scripts.specs.Script.{script_of, script_or_empty}
 use Rattle.steps.specs.declared.reading.Step.{Step}
 use Rattle.steps.specs.declared.reading.Step.TheVariants.{WithNumber, WithCue}
 use Rattle.step_words.specs.declared.NumberWord.{NumberWord}
@@ -269,10 +270,11 @@ unfolding output_of
 output_fits s =
     split (ltb 65536 (length s))
     (λ t. rw t (refused_fits TextTooLong 0))
-    (λ t. rw t (by_outcome (script_of (start_text s)).0 (ltb-false _ _ t)))
+    (λ t. rw t (by_read (script_of (start_text s)) refl (ltb-false _ _ t)))
   where
-    by_outcome : (o : Outcome) → length s ≤ 65536
-        → length (output_with o (script_of (start_text s)).1 (lines_of (step_list s))) ≤ room
-    by_outcome (RefusedText r line) h = refused_fits r line
-    by_outcome Accepted h =
-        run_fits (opened (script_of (start_text s)).1) (step_list s) (opened_is_sound (start_text s)) (step_list_short s h)
+    by_read : (r : Result (List ℕ) RefusedText) → script_of (start_text s) ≡ r → length s ≤ 65536
+        → length (output_with r (lines_of (step_list s))) ≤ room
+    by_read (Unread why) e h = refused_fits why.refusal why.line
+    by_read (Read script) e h =
+        let sound : Sound (opened script) = rw e at (opened_is_sound (start_text s)) in
+        run_fits (opened script) (step_list s) sound (step_list_short s h)

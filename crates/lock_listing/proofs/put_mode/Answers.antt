@@ -30,7 +30,7 @@ returns-then-held c =
     rest_written a.buf.now (bytes "mode," ++ field_text a.e 44) a.word.now
     (mode_text a.e a.held a.word.now) a.at (held_text a.e a.held a.word.now c.if-held.true)
     c.put_start-middle.new.buf c.put_start-middle.result c.put_start-middle.ensures c.requires c.write_bytes.new.buf c.write_bytes.result
-    c.write_bytes.ensures _ c.in-Upto.is
+    c.write_bytes.ensures _ c.in-Ok.is
 
 pub returns : goal.returns
 returns c =

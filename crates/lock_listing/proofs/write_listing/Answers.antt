@@ -3,7 +3,8 @@ use Rattle.std.proofs.Common.{List, ℕ, ◌≡◌}
 use mathlib.Core.List.Perm
 use mathlib.Core.List.{map}
 use Rattle.buffers.specs.Written.{written_at}
-use Rattle.buffers.specs.declared.Written.{Written}
+use Rattle.std.specs.Prelude.{Result}
+use Rattle.refusals.specs.declared.Refusal.{Refusal}
 use Rattle.buffers.proofs.Laws.{too_short, room, no_room}
 use Rattle.buffers.proofs.Puts.{put_written}
 use Rattle.boosting.specs.Listing.{listing_from}
@@ -12,7 +13,7 @@ use Rattle.lock_listing.specs.Listed.{ListingWritten, listing_text}
 use Rattle.lock_listing.proofs.write_listing.Goals as goal
 
 -- the lines that the program writes
-in_order : (ts : List (List ℕ)) (at : ℕ) (before after : List ℕ) (r : Written)
+in_order : (ts : List (List ℕ)) (at : ℕ) (before after : List ℕ) (r : Result ℕ Refusal)
     → (r, after) ≡ written_at before at (listing_text ts)
     → ListingWritten (map transaction_of ts) at before after r
 in_order ts at before after r w =
