@@ -2,7 +2,6 @@
 use mathlib.Core.Path.{◌≡◌, refl, ap, ◌∙◌}
 use mathlib.Core.Bool.{Bool, true, false, cond}
 use mathlib.Core.List.{List, [], ◌∷◌, ◌++◌}
-use mathlib.Core.Logic.{◌⊎◌, inl, inr}
 use Rattle.std.specs.Prelude.{Option, None, Some}
 use Prim.Native.Nat.{ℕ, zero, suc, ◌+◌, ◌*◌, ◌/◌, ◌%◌, ◌≤◌, ◌<◌}
 use native.Mathlib.Omega.{arith}
@@ -41,7 +40,7 @@ use Rattle.tables.proofs.Laws.{split}
 use Rattle.std.specs.Prelude.{Result}
 use Rattle.std.specs.Prelude.{Ok as Read, Err as Unread}
 use Rattle.refusals.specs.declared.RefusedText.{RefusedText}
-use Rattle.scripts.specs.Script.{script_of, script_or_empty}
+use Rattle.scripts.specs.Script.{script_of}
 use Rattle.steps.specs.declared.reading.Step.{Step}
 use Rattle.steps.specs.declared.reading.Step.TheVariants.{WithNumber, WithCue}
 use Rattle.step_words.specs.declared.NumberWord.{NumberWord}
@@ -65,8 +64,6 @@ use Rattle.boosting.specs.Rows.{
   roll_back,
   call,
   Request,
-  malformed,
-  request,
   request_of,
   refusal_of,
 }
@@ -162,10 +159,10 @@ decided_at_most : (o : Option Refusal) (d : Store) (e : ℕ) (a : Action)
 decided_at_most (Some r) d e a = refusal_at_most r
 decided_at_most None d e a = performed_at_most d e a
 
-stepped_at_most : (d : Store) (q : Request) → length (answer_text (step_on d q).answer) ≤ 40
+stepped_at_most : (d : Store) (q : Option Request) → length (answer_text (step_on d q).answer) ≤ 40
 unfolding step_on
-stepped_at_most d malformed = refusal_at_most MalformedLine
-stepped_at_most d (request e a) = decided_at_most (refusal_of d (request e a)) d e a
+stepped_at_most d None = refusal_at_most MalformedLine
+stepped_at_most d (Some q) = decided_at_most (refusal_of d (Some q)) d q.transaction q.action
 
 -- every answer line is short
 pub line_at_most : (d : Store) (l : List ℕ) → length (answer_text (step_line d l).answer) ≤ 40
