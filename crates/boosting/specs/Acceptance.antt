@@ -1,4 +1,4 @@
--- Acceptance tests: the theorems at single runs, one for each of document 01's traps, and some for other wrong desks. A
+-- Acceptance tests: the theorems at single runs, one for each wrong desk that is easily built, and some for others. A
 -- test says nothing that its theorem does not say of every run. Its proof is a computation and is checked before every
 -- other proof, so a wrong definition first meets a fact that can be read: two lists of answers, two states or two
 -- numbers. Proved in `proofs/Acceptance.antt`. Assumes nothing.

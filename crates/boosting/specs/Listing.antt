@@ -1,4 +1,4 @@
--- The lock listing, document 01's lock sheet: one line for each cue lock held and one for each queue mode held, each
+-- The lock listing, the users' lock sheet: one line for each cue lock held and one for each queue mode held, each
 -- once. The order of the lines is left to the program. Assumes nothing.
 use Rattle.std.specs.Prelude.{ℕ, suc, Bool, if◌then◌else◌, List, [], ◌∷◌, ◌++◌}
 use Rattle.lines.specs.Ascii.{bytes}

@@ -1,5 +1,5 @@
--- Room: a transaction has at most 24 cue locks and 16 undo entries, the script 256 slots, the queue 64. Document 01's
--- places are slots here. Closed transactions have an empty log, so only unclosed ones count. Assumes nothing.
+-- Room: a transaction has at most 24 cue locks and 16 undo entries, the script 256 slots, the queue 64. Users call
+-- a slot a place. Closed transactions have an empty log, so only unclosed ones count. Assumes nothing.
 use Rattle.std.specs.Prelude.{ℕ, suc, ◌+◌, Bool, false, not, ◌&&◌, List, [], ◌∷◌, nat_le, length, Option, None, Some}
 use Rattle.tables.specs.Table.{member_of, put_once_of}
 use Rattle.boosting.specs.Undo.{Entry, added, removed, pushed, taken}

@@ -43,7 +43,7 @@ pub use Rattle.vocabulary.specs.declared.Action.TheVariants.{
 abbrev pub request : ℕ → Action → Option Request
 request e a = Some (record { transaction = e; action = a })
 
--- what a word asks for that has only the transaction's number behind it: the papers' `undo` is an abort, their `back` a
+-- what a word asks for that has only the transaction's number behind it: the users' `undo` is an abort, their `back` a
 -- rollback step
 abbrev pub number_action : NumberWord → Action
 number_action Begin = begin

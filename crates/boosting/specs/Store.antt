@@ -1,4 +1,4 @@
--- The store, document 01's desk: one script, one queue and eight transactions, document 01's edits. Assumes nothing.
+-- The store, the users' desk: one script, one queue and eight transactions, the users' edits. Assumes nothing.
 use Rattle.std.specs.Prelude.{ℕ, zero, suc, Bool, if◌then◌else◌, ◌&&◌, List, [], ◌∷◌, nat_eq, nat_le, slice_index_or, set, replicate, Option, None, Some}
 use Rattle.boosting.specs.Object.{State}
 use Rattle.boosting.specs.Undo.{Entry}

@@ -96,7 +96,7 @@ pub record Leaves (d : Store) (e : ℕ) (o : Out) (a : Answer) (s : State) (t : 
   pub new : transaction o.store e ≡ t
   pub others : (f : ℕ) → (f ≡ e → ⊥) → transaction o.store f ≡ transaction d f
 
--- the rows of document 01's table of steps: `begin`, `commit`, `undo`, and `back` with no entry, one, and more
+-- the rows of the table of steps: `begin`, `commit`, `undo`, and `back` with no entry, one, and more
 pub record StepTable (d : Store) (e : ℕ) : Type 0 where
   pub begins :
       refusal_of d (request e begin) ≡ None

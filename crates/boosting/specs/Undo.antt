@@ -1,4 +1,4 @@
--- The undo log: what a call notes, and the inverse that takes it back. Document 01's log entries. Assumes nothing.
+-- The undo log: what a call notes, and the inverse that takes it back. Users call it the log. Assumes nothing.
 use Rattle.std.specs.Prelude.{ℕ, List, ◌∷◌, Option, None, Some}
 use Rattle.tables.specs.Table.{insert_of, delete_of, put_once_of}
 use Rattle.boosting.specs.Object.{

@@ -1,4 +1,4 @@
--- The checksum of a text: what document 01 calls its stamp. It is a number modulo 2^32.
+-- The checksum of a text, which users call its stamp. It is a number modulo 2^32.
 -- Assumes nothing.
 use Rattle.std.specs.Prelude.{ℕ, zero, suc, ◌+◌, ◌*◌, ◌%◌, ◌^◌, List, [], ◌∷◌}
 

@@ -15,7 +15,7 @@ EntriesAreWeights = (b : ℕ) → b < 256 → slice_index weight_table b ≡ wei
 abbrev pub ChecksumBounded : Type 0
 ChecksumBounded = (sum : ℕ) (text : List ℕ) → sum < 2 ^ 32 → checksum_from sum text < 2 ^ 32
 
--- what the definitions give, beside what document 01 prints: the weights of 0, 1, 2 and 255, and the checksums of no
+-- what the definitions give, beside the values that are known: the weights of 0, 1, 2 and 255, and the checksums of no
 -- bytes, of `0`, and of `0` and LF
 unfoldable pub printed_values : List (ℕ × ℕ)
 printed_values =

@@ -1,7 +1,5 @@
--- The numbers of the refusals, row by row of the table "What is turned away".
--- The papers' edit is a transaction here, an unwinding edit an aborting one, the log of inverses the undo log, a script
--- place a slot.
--- Assumes nothing.
+-- The numbers of the refusals, row by row of the table of what is turned away (docs/RULES.md, 4). The users' edit is a
+-- transaction here, an edit that unwinds an aborting one, the log the undo log, a place a slot. Assumes nothing.
 use Rattle.std.specs.Prelude.{ℕ}
 use Rattle.refusals.specs.declared.Refusal.{Refusal}
 use Rattle.refusals.specs.declared.Refusal.TheVariants.{

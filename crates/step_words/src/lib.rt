@@ -6,7 +6,7 @@
 ghost use Rattle.std.specs.Prelude.{◌≡◌};
 ghost use Rattle.step_words.specs.Word.{word_of};
 
-// The words of lines `word,e`, as the papers write them.
+// The words of lines `word,e`.
 #[derive(Clone, Copy, Debug, PartialEq, Eq)]
 pub enum NumberWord {
     Begin,

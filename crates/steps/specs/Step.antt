@@ -1,5 +1,5 @@
--- The step that a line stands for: the first column of the table "Steps and what each does".
--- The papers' edit number e is the transaction's number.
+-- The step that a line stands for: the first column of the table of steps (docs/RULES.md, 5).
+-- The number e of an edit is the transaction's number.
 -- A line that has not one of these forms is no step: it is malformed.
 -- Assumes nothing.
 use Rattle.std.specs.Prelude.{ℕ, List, Option, Some, None}

@@ -13,8 +13,8 @@ use step_words::{CueWord, NumberWord, Word, read_word};
 
 const COMMA: u8 = b',';
 
-// A step is its word and its numbers. The first number is the transaction's, which the papers call the edit's, whatever
-// its range.
+// A step is its word and its numbers. The first number is the transaction's, which users call an edit, whatever its
+// range.
 #[derive(Clone, Copy, Debug, PartialEq, Eq)]
 pub enum Step {
     WithNumber(NumberWord, u64),

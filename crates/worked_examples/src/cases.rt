@@ -1,4 +1,4 @@
-// One case: an input, the output that document 01 gives for it, and the line that says whether it came.
+// One case: an input, the output that has to come, and the line that says whether it came.
 ghost use Rattle.std.specs.Prelude.{◌≡◌, true, ◌≤◌, length};
 ghost use Rattle.session.specs.Output.{output_of};
 

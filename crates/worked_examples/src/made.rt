@@ -1,4 +1,4 @@
-// The cases of document 01 that are no plain text: an input that is too long, and a buffer that is too short.
+// The cases that are no plain text: an input that is too long, and a buffer that is too short.
 ghost use Rattle.std.specs.Prelude.{◌≤◌};
 
 use crate::cases::{gives, report};

@@ -1,4 +1,4 @@
-// The worked lines of document 01 through the running code: those marked †, which `worked_runs` also proves of the
+// The worked steps of the rules (docs/RULES.md, 12) through the running code: those marked †, which `worked_runs` also proves of the
 // model, the others, the small example of each row of the table of refusals, the printed run and the traps.
 //
 // All but two are plain text, in the file `stdin` beside this folder. Prints a line for each, `ok` or `WRONG` with its

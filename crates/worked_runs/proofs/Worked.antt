@@ -1,4 +1,4 @@
--- The worked steps of document 01, each computed. Assumes nothing.
+-- The worked steps of the rules, each computed. Assumes nothing.
 use mathlib.Core.Path.{refl}
 use Rattle.lines.specs.Lines.{up_to, onto, lines_of}
 use Rattle.digits.specs.Digits.{digits_at}

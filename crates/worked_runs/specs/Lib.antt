@@ -1,2 +1,2 @@
--- The worked steps of document 01, on the model of the desk.
+-- The worked steps of the rules, on the model of the desk.
 pub mod Worked

@@ -1,4 +1,4 @@
--- The worked steps of document 01, with its own lines: a start script, each step with its answer, and the script and
+-- The worked steps of the rules (docs/RULES.md, 12): a start script, each step with its answer, and the script and
 -- the queue that recovery with rising numbers leaves. Those marked † are one list with one theorem over it; the whole
 -- run, and the unmarked ones with the small examples of the rows and the traps, are two more. Proved in
 -- `proofs/Worked.antt`. Assumes nothing.
@@ -325,7 +325,7 @@ unmarked =
     }
     ∷ []
 
--- what the model makes of a start script and steps, or what the paper says that it makes
+-- what the model makes of a start script and steps, or what the rules say that it makes
 pub record Result : Type 0 where
   pub accepted : Bool
   pub answers : List (List ℕ)
@@ -352,7 +352,7 @@ expected_of w = record {
   queue = w.queue;
 }
 
--- each comes out as the paper says
+-- each comes out as the rules say
 abbrev pub AsWorked : List Worked → Type 0
 AsWorked ws = map result_of ws ≡ map expected_of ws
 

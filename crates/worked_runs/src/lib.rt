@@ -1,6 +1,5 @@
-#![tactic(auto)]
-
-// The worked steps of document 01: no code, only theorems about the model of the desk (`boosting`).
+// The worked steps of the rules: no code, only theorems about the model of the desk (`boosting`).
 //
-// `specs/` has the lines as the document writes them, with their answers; `proofs/` computes them. They are a crate
-// by themselves because computing them takes longest, and an edit of the model should not wait for it.
+// `specs/` has the lines with their answers; `proofs/` computes them. They are a crate by themselves because computing
+// them takes longest, and an edit of the model should not wait for it.
+#![tactic(auto)]
