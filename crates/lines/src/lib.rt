@@ -11,7 +11,10 @@ ghost use Rattle.lines.specs.Lines.{up_to};
 ghost use Rattle.lines.specs.Line.{line_at};
 
 // What ends a line.
-pub const LF: u8 = 10;
+pub const LF: u8 = b'\n';
+
+// What divides the fields of a line.
+pub const COMMA: u8 = b',';
 
 // A line from start to end, where its LF is or the text ends; next is the place behind that.
 #[derive(Clone, Copy, Debug, PartialEq, Eq)]

@@ -9,7 +9,7 @@ ghost use Rattle.std.specs.Prelude.{◌≡◌, length};
 ghost use Rattle.numbers.specs.Field.{field_at, leading_at, DigitsPassed, FieldFits};
 ghost use Rattle.numbers.specs.Number.{number_of, NineDigits};
 
-const COMMA: u8 = b',';
+use lines::COMMA;
 
 // What no number of two digits or more begins with.
 const ZERO: u8 = b'0';

@@ -10,13 +10,11 @@ ghost use Rattle.scanning.specs.Quick.{RestFits, QuickFits};
 
 use crate::Scanned;
 use cues::CueNumbers;
-use lines::LF;
+use lines::{COMMA, LF};
 use quick_numbers::{Short, one_digit, seven_digits, two_digits};
 use quick_words::WordTable;
 use step_words::{CueWord, Word};
 use steps::Step;
-
-const COMMA: u8 = b',';
 
 // A quick look reads no byte past these: the longest plain line has 23 with its LF.
 const REACH: usize = 32;

@@ -7,11 +7,9 @@ ghost use Rattle.steps.specs.Step.{cued, step_of};
 
 use cue_lines::read_fields;
 use cues::CueNumbers;
-use lines::find_byte;
+use lines::{COMMA, find_byte};
 use numbers::{read_field, read_number};
 use step_words::{CueWord, NumberWord, Word, read_word};
-
-const COMMA: u8 = b',';
 
 // A step is its word and its numbers. The first number is the transaction's, which users call an edit, whatever its
 // range.

@@ -1,5 +1,6 @@
-// The worked steps of the rules (docs/RULES.md, 12) through the running code: those marked †, which `worked_runs` also proves of the
-// model, the others, the small example of each row of the table of refusals, the printed run and the traps.
+// The worked steps of the rules (docs/RULES.md, 12) through the running code: those marked †, which `worked_runs` also
+// proves of the model, the others, the small example of each row of the table of refusals, the printed run and the
+// wrong desks.
 //
 // All but two are plain text, in the file `stdin` beside this folder. Prints a line for each, `ok` or `WRONG` with its
 // name, then how many are right; and says so where the number of cases is not the expected one.
