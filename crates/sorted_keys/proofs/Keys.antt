@@ -1,54 +1,56 @@
 -- Keys that come and go at their ranks. Assumes nothing.
-use Rattle.std.proofs.Common.{◌≡◌, ℕ, suc, ◌+◌, ◌<◌, ◌≤◌, Bool, true, false, List, [], ◌∷◌, ◌++◌, length, take, drop, refl, ap, sym, ◌∙◌, arith}
-use lib.Seq.{length-take-le}
-use Rattle.tables.specs.Table.{Ordered, rank_of, member_of, insert_of, delete_of, put_once_of}
-use Rattle.sorted_keys.specs.Least.{least_of, others_of}
+use Rattle.std.proofs.Common.{◌≡◌, ℕ, zero, suc, ◌+◌, ◌<◌, ◌≤◌, true, false, List, [], ◌∷◌, length, ap, ◌∙◌, arith}
+use Rattle.std.specs.List.{insert, remove}
+use Rattle.tables.specs.Table.{From, Ordered, rank_of, member_of, insert_of, delete_of, put_once_of}
 use Rattle.tables.proofs.Laws as tables
+use Rattle.sorted_keys.proofs.Ranks.{rank_le, member_rank}
 
--- the first n words of N are n keys
-pub counted : (n N : ℕ) (l words : List ℕ) → l ≡ take n words → length words ≡ N → n ≤ N → length l ≡ n
-counted n N l words e long h = rw e (length-take-le n words (omega arith))
+pub insert-rank : (k : ℕ) (l : List ℕ) → insert_of k l ≡ insert l (rank_of k l) k
+insert-rank k l = tables.insert_split k l
 
-pub inserted : (k i : ℕ) (l m : List ℕ) → m ≡ take i l ++ k ∷ drop i l → i ≡ rank_of k l → m ≡ insert_of k l
-inserted k i l m e r = rw (e, r) (sym (tables.insert_split k l))
+pub delete-rank : (k : ℕ) (l : List ℕ) → Ordered 0 l → member_of k l ≡ true → delete_of k l ≡ remove l (rank_of k l)
+delete-rank k l o m = tables.delete_split k l o m
 
-pub inserted-Ordered : (k i : ℕ) (l m : List ℕ) → m ≡ take i l ++ k ∷ drop i l → i ≡ rank_of k l → Ordered 0 l → Ordered 0 m
-inserted-Ordered k i l m e r o = rw (inserted k i l m e r) (tables.insert_ordered 0 k l (omega arith) (tables.Apart-zero k l) o)
+pub inserted-Ordered : (k i : ℕ) (l m : List ℕ) → m ≡ insert l i k → i ≡ rank_of k l → Ordered 0 l → Ordered 0 m
+inserted-Ordered k i l m e r o = rw (e, r, ← insert-rank k l) (tables.insert_ordered 0 k l (omega arith) (tables.Apart-zero k l) o)
 
-pub removed : (k i : ℕ) (l m : List ℕ) → m ≡ take i l ++ drop (i + 1) l → i ≡ rank_of k l → Ordered 0 l
-    → member_of k l ≡ true → m ≡ delete_of k l
-removed k i l m e r o h =
-    let s : i + 1 ≡ suc i = omega arith in
-    rw (e, s, r) (sym (tables.delete_split k l o h))
+remove-From : (b i : ℕ) (l : List ℕ) → From b l → From b (remove l i)
+remove-From b i [] f = elim i as (λ n. From b (remove [] n)) [ zero ↦ tt | suc n ↦ tt ]
+remove-From b zero (x ∷ l) f = f.1
+remove-From b (suc i) (x ∷ l) f = (f.0, remove-From b i l f.1)
 
-pub removed-Ordered : (k i : ℕ) (l m : List ℕ) → m ≡ take i l ++ drop (i + 1) l → i ≡ rank_of k l → Ordered 0 l
-    → member_of k l ≡ true → Ordered 0 m
-removed-Ordered k i l m e r o h = rw (removed k i l m e r o h) (tables.delete_ordered 0 k l o)
+remove-Ordered : (i : ℕ) (l : List ℕ) → Ordered 0 l → Ordered 0 (remove l i)
+remove-Ordered i [] o = elim i as (λ n. Ordered 0 (remove [] n)) [ zero ↦ tt | suc n ↦ tt ]
+remove-Ordered zero (x ∷ l) o = o.1
+remove-Ordered (suc i) (x ∷ l) o = (remove-From (x + 0) i l o.0, remove-Ordered i l o.1)
 
-pub below : (k i : ℕ) (l : List ℕ) → i ≡ rank_of k l → Ordered 0 l → member_of k l ≡ true → i < length l
-below k i l r o h = rw r (tables.member_below k l o h)
+pub removed-Ordered : (i : ℕ) (l m : List ℕ) → m ≡ remove l i → Ordered 0 l → Ordered 0 m
+removed-Ordered i l m e o = rw e (remove-Ordered i l o)
 
 -- putting in once is leaving what is there as it is, and inserting what is not
-pub once-there : (k : ℕ) (l : List ℕ) → member_of k l ≡ true → l ≡ put_once_of k l
+pub once-there : (k : ℕ) (l : List ℕ) → member_of k l ≡ true → put_once_of k l ≡ l
 unfolding put_once_of
 once-there k l h = rw h
 
-pub once-new : (k : ℕ) (l : List ℕ) → member_of k l ≡ false → insert_of k l ≡ put_once_of k l
+pub once-new : (k : ℕ) (l : List ℕ) → member_of k l ≡ false → put_once_of k l ≡ insert_of k l
 unfolding put_once_of
 once-new k l h = rw h
 
 -- where a new key finds room there is room for one more
-pub once-room : (k N : ℕ) (l now : List ℕ) → now ≡ l → member_of k l ≡ false → length (put_once_of k now) ≤ N
-    → length l + 1 ≤ N
-once-room k N l now e h room =
-    let longer : length (put_once_of k l) ≡ suc (length l) = ap length (sym (once-new k l h)) ∙ tables.length_insert k l in
-    let short : length (put_once_of k l) ≤ N = rw e at room in
-    omega (arith, longer, short)
+pub once-room : (k N : ℕ) (l : List ℕ) → member_of k l ≡ false → length (put_once_of k l) ≤ N → length l < N
+once-room k N l h room = omega (arith, room, ap length (once-new k l h) ∙ tables.length_insert k l)
 
 pub ruleset keys_rules = (
-  inserted,
-  inserted-Ordered,
-  removed,
-  tables.delete_absent,
+  rank_le,
+  tables.member_end,
   tables.member_below,
+  member_rank,
+  insert-rank,
+  delete-rank,
+  tables.delete_absent,
+  inserted-Ordered,
+  removed-Ordered,
+  once-there,
+  once-new,
+  once-room,
 )

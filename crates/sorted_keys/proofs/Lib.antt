@@ -1,2 +1,5 @@
--- What stays when keys come and go.
+-- Ranks, the search by halves, moves of words, and what stays when keys come and go.
+pub mod Halves
 pub mod Keys
+pub mod Ranks
+pub mod Shifts

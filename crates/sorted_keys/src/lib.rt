@@ -8,22 +8,24 @@ ghost use Rattle.std.specs.Prelude.{◌≡◌, ℕ, ◌<◌, ◌≤◌, List, []
 ghost use Rattle.tables.specs.Table.{Ordered, member_of, insert_of, delete_of, put_once_of};
 ghost use Rattle.sorted_keys.specs.Least.{least_of, others_of};
 
-use ranks::{rank, stands_at};
+mod search;
+mod words;
+
+use search::{rank, stands_at};
 use std::marker::Model;
-use tables::{insert_at, remove_at};
+use words::Words;
 
 #[derive(Drop)]
 pub struct SortedKeys<const N: usize> {
-    keys: [u64; N],
-    count: usize,
+    keys: Words<N>,
 }
 
 impl<const N: usize> Model for SortedKeys<N> {
     ghost Value = { List ℕ };
 
-    ghost view = { λ s. take s.count s.keys };
+    ghost view = { λ s. s.keys };
 
-    ghost invariant = { λ s. (N ≤ 65536) × (s.count ≤ N) × Ordered 0 (take s.count s.keys) };
+    ghost invariant = { λ s. Ordered 0 s.keys };
 }
 
 #[tactic(auto, using(crate::proofs::Keys::keys_rules))]
@@ -32,17 +34,14 @@ impl<const N: usize> SortedKeys<N> {
         requires { N ≤ 65536 }
         ensures { result ≡ [] }
     {
-        SortedKeys {
-            keys: [0; N],
-            count: 0,
-        }
+        SortedKeys { keys: Words::new() }
     }
 
     pub fn len(&self) -> usize
         ensures value { result ≡ length self.now }
         ensures fits { result ≤ N }
     {
-        self.count
+        self.keys.len()
     }
 
     pub fn as_slice(&self) -> &[u64]
@@ -50,14 +49,14 @@ impl<const N: usize> SortedKeys<N> {
         ensures fits { length result.now ≤ N }
         ensures in_order { Ordered 0 self.now }
     {
-        &self.keys[..self.count]
+        self.keys.as_slice()
     }
 
     pub fn contains(&self, key: u64) -> bool
         ensures { result ≡ member_of key self.now }
     {
-        let at = rank(&self.keys, self.count, key);
-        stands_at(&self.keys, self.count, at, key)
+        let keys = self.keys.as_slice();
+        stands_at(keys, rank(keys, key), key)
     }
 
     // Takes all keys out.
@@ -65,7 +64,7 @@ impl<const N: usize> SortedKeys<N> {
     pub fn clear(&mut self)
         ensures { self.new ≡ [] }
     {
-        self.count = 0;
+        self.keys.clear();
     }
 
     // Takes these keys in place of its own.
@@ -74,8 +73,7 @@ impl<const N: usize> SortedKeys<N> {
         requires in_order { Ordered 0 keys.now }
         ensures { self.new ≡ keys.now }
     {
-        self.keys[..keys.len()].copy_from_slice(keys);
-        self.count = keys.len();
+        self.keys.copy_from(keys);
     }
 
     // Puts the key in its place, beside an equal one too. There has to be room.
@@ -83,9 +81,8 @@ impl<const N: usize> SortedKeys<N> {
         requires { length self.old < N }
         ensures { self.new ≡ insert_of key self.old }
     {
-        let at = rank(&self.keys, self.count, key);
-        insert_at(&mut self.keys, self.count, at, key);
-        self.count += 1;
+        let below = rank(self.keys.as_slice(), key);
+        self.keys.insert(below, key);
     }
 
     // Puts the key in its place unless it is there, and says whether it was not. There has to be room for a new one.
@@ -94,13 +91,12 @@ impl<const N: usize> SortedKeys<N> {
         ensures is_new { result ≡ not (member_of key self.old) }
         ensures with_it { self.new ≡ put_once_of key self.old }
     {
-        let at = rank(&self.keys, self.count, key);
-        if stands_at(&self.keys, self.count, at, key) {
-            return false;
+        let at = rank(self.keys.as_slice(), key);
+        let is_new = !stands_at(self.keys.as_slice(), at, key);
+        if is_new {
+            self.keys.insert(at, key);
         }
-        insert_at(&mut self.keys, self.count, at, key);
-        self.count += 1;
-        true
+        is_new
     }
 
     // Takes out one key that equals `key`, and says whether there was one.
@@ -108,20 +104,19 @@ impl<const N: usize> SortedKeys<N> {
         ensures was_there { result ≡ member_of key self.old }
         ensures without { self.new ≡ delete_of key self.old }
     {
-        let at = rank(&self.keys, self.count, key);
-        if !stands_at(&self.keys, self.count, at, key) {
-            return false;
+        let at = rank(self.keys.as_slice(), key);
+        let was_there = stands_at(self.keys.as_slice(), at, key);
+        if was_there {
+            self.keys.remove(at);
         }
-        remove_at(&mut self.keys, self.count, at);
-        self.count -= 1;
-        true
+        was_there
     }
 
     // The least key, if there is one.
     pub fn first(&self) -> Option<u64>
         ensures { result ≡ least_of self.now }
     {
-        self.as_slice().first().copied()
+        self.keys.as_slice().first().copied()
     }
 
     // Takes out the least key, if there is one.
@@ -130,8 +125,7 @@ impl<const N: usize> SortedKeys<N> {
         ensures others { self.new ≡ others_of self.old }
     {
         let first = self.first()?;
-        remove_at(&mut self.keys, self.count, 0);
-        self.count -= 1;
+        self.keys.remove(0);
         Some(first)
     }
 }

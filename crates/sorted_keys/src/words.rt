@@ -1,0 +1,80 @@
+// Words in an array, with how many there are: a vector of a fixed capacity. Its moves are copies within the array.
+ghost use Rattle.std.specs.Prelude.{◌≡◌, ℕ, ◌<◌, ◌≤◌, List, [], length, take, insert, remove};
+
+use std::marker::Model;
+
+#[derive(Drop)]
+pub struct Words<const N: usize> {
+    words: [u64; N],
+    count: usize,
+}
+
+impl<const N: usize> Model for Words<N> {
+    ghost Value = { List ℕ };
+
+    ghost view = { λ w. take w.count w.words };
+
+    ghost invariant = { λ w. (N ≤ 65536) × (w.count ≤ N) };
+}
+
+impl<const N: usize> Words<N> {
+    pub fn new() -> Self
+        requires { N ≤ 65536 }
+        ensures { result ≡ [] }
+    {
+        Words {
+            words: [0; N],
+            count: 0,
+        }
+    }
+
+    pub fn len(&self) -> usize
+        ensures value { result ≡ length self.now }
+        ensures fits { result ≤ N }
+    {
+        self.count
+    }
+
+    pub fn as_slice(&self) -> &[u64]
+        ensures value { result.now ≡ self.now }
+        ensures fits { length result.now ≤ N }
+        ensures bounded { N ≤ 65536 }
+    {
+        &self.words[..self.count]
+    }
+
+    #[inline(always)]
+    pub fn clear(&mut self)
+        ensures { self.new ≡ [] }
+    {
+        self.count = 0;
+    }
+
+    pub fn copy_from(&mut self, words: &[u64])
+        requires { length words.now ≤ N }
+        ensures { self.new ≡ words.now }
+    {
+        self.words[..words.len()].copy_from_slice(words);
+        self.count = words.len();
+    }
+
+    // Puts the word at a place, and moves those from there on up by one. There has to be room.
+    pub fn insert(&mut self, at: usize, word: u64)
+        requires in_bounds { at ≤ length self.old }
+        requires has_room { length self.old < N }
+        ensures { self.new ≡ insert self.old at word }
+    {
+        self.words.copy_within(at..self.count, at + 1);
+        self.words[at] = word;
+        self.count += 1;
+    }
+
+    // Takes out the word at a place, and moves those behind it down by one.
+    pub fn remove(&mut self, at: usize)
+        requires { at < length self.old }
+        ensures { self.new ≡ remove self.old at }
+    {
+        self.words.copy_within(at + 1..self.count, at);
+        self.count -= 1;
+    }
+}
