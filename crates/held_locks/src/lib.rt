@@ -61,8 +61,8 @@ fn with_bit(sieve: u64, key: u64) -> u64
     sieve | (1 << sieve_bit(key))
 }
 
-#[tactic(auto, using(crate::proofs::Sieves::sieve_rules, crate::proofs::Searches::search_rules), unfolding(boosting::specs::Locks::no_locks, boosting::specs::Locks::hold, boosting::specs::Locks::conflicts))]
 impl HeldLocks {
+    #[tactic(auto, unfolding(boosting::specs::Locks::no_locks))]
     pub fn new() -> Self
         ensures { result ≡ no_locks }
     {
@@ -76,6 +76,7 @@ impl HeldLocks {
     }
 
     // Lets all locks go.
+    #[tactic(auto, unfolding(boosting::specs::Locks::no_locks))]
     pub fn clear(&mut self)
         ensures { self.new ≡ no_locks }
     {
@@ -117,6 +118,7 @@ impl HeldLocks {
 
     // Whether a cue lock with this key may be held, by the sieve alone. Where this is false, it is not.
     #[inline(always)]
+    #[tactic(auto, using(crate::proofs::Sieves::sieve_rules))]
     pub fn may_hold(&self, key: u64) -> bool
         ensures { result ≡ false → member_of key self.now.cues ≡ false }
     {
@@ -124,6 +126,7 @@ impl HeldLocks {
     }
 
     // Whether a cue lock with this key is held.
+    #[tactic(auto, using(crate::proofs::Searches::search_rules))]
     pub fn holds_cue(&self, key: u64) -> bool
         ensures { result ≡ member_of key self.now.cues }
     {
@@ -140,6 +143,7 @@ impl HeldLocks {
 
     // Whether the lock is in conflict with one of these.
     #[inline(always)]
+    #[tactic(auto, unfolding(boosting::specs::Locks::conflicts))]
     pub fn conflicts(&self, lock: Lock) -> bool
         ensures { result ≡ conflicts lock self.now }
     {
@@ -164,6 +168,7 @@ impl HeldLocks {
 
     // Holds the lock, once, besides those that were. There has to be room.
     #[inline(always)]
+    #[tactic(auto, using(crate::proofs::Sieves::sieve_rules), unfolding(boosting::specs::Locks::hold))]
     pub fn hold(&mut self, lock: Lock)
         requires { locks_full lock self.old ≡ false }
         ensures { self.new ≡ hold lock self.old }

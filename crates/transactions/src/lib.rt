@@ -1,7 +1,7 @@
 // A transaction: how it stands, the locks that it holds and its undo log.
 //
-// Clauses see it as the model's `Transaction`, and each method does to it what the model does: it opens, aborts, closes,
-// takes in an accepted call, and gives its newest entry back to be undone.
+// Clauses see it as the model's `Transaction`, and each method does to it what the model does: it opens, aborts,
+// closes, takes in an accepted call, and gives its newest entry back to be undone.
 #![tactic(auto)]
 
 ghost use Rattle.std.specs.Prelude.{◌≡◌, false};
@@ -103,7 +103,7 @@ impl Transaction {
     }
 
     // Its newest entry, if there is one, is to be undone: the log loses it, and with no entry left it closes.
-    #[tactic(auto, using(crate::proofs::Unwinding::unwound_some), unfolding(boosting::specs::Store::closed_transaction))]
+    #[tactic(auto, using(crate::proofs::Unwinding::unwound_some))]
     pub fn take_newest(&mut self) -> Option<Entry>
         requires { self.old.standing ≡ aborting }
         ensures newest { result ≡ newest self.old.log }
