@@ -1,58 +1,28 @@
 // The store of a script text: its cues, an empty queue, and every transaction closed.
-ghost use Rattle.std.specs.Prelude.{◌≡◌, map, length, replicate};
-ghost use Rattle.scripts.specs.Script.{keys_of, script_of};
-ghost use Rattle.boosting.specs.Store.{closed_transaction, opened};
-ghost use Rattle.transactions.specs.View.{transaction_of};
-ghost use Rattle.store_words.specs.Words.{script_in, ScriptFits, TransactionsFit};
-ghost use Rattle.store_words.specs.Performed.{Shows};
-ghost use Rattle.store.specs.Sized.{AllLong, Sized};
+ghost use Rattle.std.specs.Prelude.{◌≡◌};
+ghost use Rattle.scripts.specs.Script.{script_of};
+ghost use Rattle.boosting.specs.Store.{opened};
+ghost use Rattle.store.specs.Answering.{opening};
 
+use crate::{Store, all_closed};
+use refusals::RefusedText;
 use script_texts::key_count;
-use scripts::{Outcome, Script, read_script};
-use store_words::{QUEUE_COUNT, SCRIPT_COUNT};
-use tables::copy_keys;
-use transactions::close;
+use scripts::{Outcome, read_script};
 
-// The keys of a script, and behind them their count.
-fn put_script(words: &mut [u64; 257], script: Script)
-    requires { length words.old ≡ 257 }
-    ensures { (script_in words.new ≡ keys_of script) × ScriptFits words.new }
-{
-    let keys = script.keys;
-    let n = key_count(&keys, script.count);
-    copy_keys(words, &keys, n);
-    words[SCRIPT_COUNT] = n as u64;
-}
-
-// Every transaction closes.
-fn close_all(ts: &mut [[u64; 64]; 8])
-    requires { (length ts.old ≡ 8) × AllLong ts.old }
-    ensures { (map transaction_of ts.new ≡ replicate 8 closed_transaction)
-        × TransactionsFit ts.new }
-{
-    let mut i = 0;
-    while i < 8 {
-        close(&mut ts[i]);
-        i += 1;
+impl Store {
+    // Opens the store of a script text in place of what was there. A refused text opens the empty script.
+    pub fn open(&mut self, text: &[u8]) -> Result<(), RefusedText>
+        ensures answer { result ≡ opening (script_of text.now).0 }
+        ensures store { self.new ≡ opened (script_of text.now).1 }
+    {
+        let reading = read_script(text);
+        let keys = reading.script.keys;
+        let count = key_count(&keys, reading.script.count);
+        self.object.open(&keys[..count]);
+        self.transactions = all_closed();
+        match reading.outcome {
+            Outcome::Accepted => Ok(()),
+            Outcome::Refused(refusal, line) => Err(RefusedText { refusal, line }),
+        }
     }
-}
-
-// Opens the store of a script text in words of any contents, and answers whether the text was accepted. A refused text
-// opens the empty script.
-pub fn open(
-    script: &mut [u64; 257],
-    queue: &mut [u64; 65],
-    ts: &mut [[u64; 64]; 8],
-    text: &[u8],
-) -> Outcome
-    requires { Sized script.old queue.old ts.old }
-    ensures { (result ≡ (script_of text.now).0)
-        × Shows script.new queue.new ts.new (opened (script_of text.now).1) }
-{
-    let reading = read_script(text);
-    let read = reading.script;
-    put_script(script, read);
-    queue[QUEUE_COUNT] = 0;
-    close_all(ts);
-    reading.outcome
 }

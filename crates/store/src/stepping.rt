@@ -1,45 +1,23 @@
 // One step, by a raw line or one that has been read: turned into a request, tried by the rows of the table, and
 // performed.
-ghost use Rattle.std.specs.Prelude.{◌≡◌, true};
-ghost use Rattle.cues.specs.Cue.{in_range, key_of};
-ghost use Rattle.boosting.specs.Rows.{number_action, cue_call, request_of};
+ghost use Rattle.std.specs.Prelude.{◌≡◌, ℕ, Some};
+ghost use Rattle.boosting.specs.Rows.{number_action, cue_call, request, request_of};
+ghost use Rattle.boosting.specs.Sound.{RequestKey};
 ghost use Rattle.boosting.specs.Step.{step_on, step_line};
-ghost use Rattle.store_words.specs.Words.{store_of, StoreFits};
-ghost use Rattle.store_words.specs.Requests.{model_call, model_action, model_request};
-ghost use Rattle.store.specs.Stepped.{Asks, Stepped};
+ghost use Rattle.store.specs.Answering.{answered, Asks};
 
-use admission::{Admission, refusal_of};
+use crate::Store;
+use admission::{try_call, try_step};
 use answers::Answer;
 use cues::{Cue, CueNumbers};
-use performing::perform;
 use refusals::Refusal;
 use step_words::{CueWord, NumberWord};
 use steps::{Step, read_step};
-use store_words::{Action, Call, Request};
-
-// The key of a cue's numbers where they are in range. Of others it does not matter: row 7 or an earlier one is met.
-fn key_of(cue: CueNumbers) -> u64
-    ensures { in_range cue.time cue.«module» cue.pin ≡ true
-        → result ≡ key_of (record { time = cue.time; «module» = cue.«module»; pin = cue.pin }) }
-{
-    let cue = Cue {
-        time: (cue.time % 4294967296) as u32,
-        module: (cue.module % 256) as u8,
-        pin: (cue.pin % 256) as u8,
-    };
-    cue.key()
-}
-
-// Whether the call's cue is in range, and the call.
-fn on_cue(cue: CueNumbers, call: Call) -> Action
-    ensures { result ≡ Action.OnObject (in_range cue.time cue.«module» cue.pin) call }
-{
-    Action::OnObject(cue.in_range(), call)
-}
+use vocabulary::{Action, Call, Request};
 
 // What a word asks for that has only the transaction's number behind it.
 fn number_action(word: NumberWord) -> Action
-    ensures { model_action result ≡ number_action word }
+    ensures { result ≡ number_action word }
 {
     match word {
         NumberWord::Begin => Action::Begin,
@@ -53,7 +31,7 @@ fn number_action(word: NumberWord) -> Action
 
 // The call of a word on the cue with this key.
 fn cue_call(word: CueWord, key: u64) -> Call
-    ensures { model_call result ≡ cue_call word key }
+    ensures { result ≡ cue_call word key }
 {
     match word {
         CueWord::Add => Call::Add(key),
@@ -63,50 +41,83 @@ fn cue_call(word: CueWord, key: u64) -> Call
     }
 }
 
+// What a word asks of the cue of these numbers. Out of range any key will do: row 7 or an earlier one is met.
+fn cue_action(word: CueWord, numbers: CueNumbers) -> Action
+    ensures { (transaction : ℕ) → Asks (request transaction result) (Step.WithCue word transaction numbers) }
+{
+    match Cue::try_from(numbers) {
+        Ok(cue) => Action::OnObject(true, cue_call(word, cue.key())),
+        Err(_) => Action::OnObject(false, cue_call(word, 0)),
+    }
+}
+
 // What a step asks of the store.
-fn request_of(step: Step) -> Request
-    ensures { Asks (model_request result) step }
+fn request_of(step: Step) -> Option<Request>
+    ensures { Asks result step }
 {
     match step {
-        Step::WithNumber(word, e) => Request::On(e, number_action(word)),
-        Step::WithCue(word, e, cue) => Request::On(e, on_cue(cue, cue_call(word, key_of(cue)))),
-        Step::Malformed => Request::Malformed,
+        Step::WithNumber(word, transaction) => Some(Request {
+            transaction,
+            action: number_action(word),
+        }),
+        Step::WithCue(word, transaction, numbers) => Some(Request {
+            transaction,
+            action: cue_action(word, numbers),
+        }),
+        Step::Malformed => None,
     }
 }
 
-// One step that has been read: refused with every word as it was, or accepted and done.
-pub fn execute(
-    script: &mut [u64; 257],
-    queue: &mut [u64; 65],
-    ts: &mut [[u64; 64]; 8],
-    step: Step,
-) -> Answer
-    requires { StoreFits script.old queue.old ts.old }
-    ensures { Stepped script.old queue.old ts.old
-        (step_on (store_of script.old queue.old ts.old) (request_of step))
-        script.new queue.new ts.new result }
-{
-    let request = request_of(step);
-    let Request::On(e, action) = request else {
-        return Answer::Refused(Refusal::Malformed);
-    };
-    match refusal_of(script, queue, ts, e, action) {
-        Admission::Accepted => perform(script, queue, ts, e as usize, action),
-        Admission::Refused(refusal) => Answer::Refused(refusal),
+impl Store {
+    // One request: turned away with nothing changed, or accepted and done.
+    #[inline(always)]
+    fn try_request(&mut self, request: Request) -> Result<Answer, Refusal>
+        requires { RequestKey (Some request) }
+        ensures store { self.new ≡ (step_on self.old (Some request)).store }
+        ensures answer { answered result ≡ (step_on self.old (Some request)).answer }
+    {
+        let e = try_step(&self.transactions, request)?;
+        match request.action {
+            Action::Begin => {
+                self.begin(e);
+                Ok(Answer::Ok)
+            }
+            Action::Commit => {
+                self.commit(e);
+                Ok(Answer::Ok)
+            }
+            Action::Abort => {
+                self.abort(e);
+                Ok(Answer::Ok)
+            }
+            Action::RollBack => Ok(self.roll_back(e)),
+            Action::OnObject(in_range, call) => {
+                let reply = try_call(&self.object, &self.transactions, e, call)?;
+                Ok(self.accept(e, in_range, call, reply))
+            }
+        }
     }
-}
 
-// One step on a line, without its LF.
-pub fn step(
-    script: &mut [u64; 257],
-    queue: &mut [u64; 65],
-    ts: &mut [[u64; 64]; 8],
-    line: &[u8],
-) -> Answer
-    requires { StoreFits script.old queue.old ts.old }
-    ensures { Stepped script.old queue.old ts.old
-        (step_line (store_of script.old queue.old ts.old) line.now)
-        script.new queue.new ts.new result }
-{
-    execute(script, queue, ts, read_step(line))
+    // One step that has been read: refused with nothing changed, or accepted and done.
+    pub fn execute(&mut self, step: Step) -> Answer
+        ensures store { self.new ≡ (step_on self.old (request_of step)).store }
+        ensures answer { result ≡ (step_on self.old (request_of step)).answer }
+    {
+        let Some(request) = request_of(step) else {
+            return Answer::Refused(Refusal::Malformed);
+        };
+        match self.try_request(request) {
+            Ok(answer) => answer,
+            Err(refusal) => Answer::Refused(refusal),
+        }
+    }
+
+    // One step on a line, without its LF.
+    #[tactic(auto, unfolding(boosting::specs::Step::step_line))]
+    pub fn step(&mut self, line: &[u8]) -> Answer
+        ensures store { self.new ≡ (step_line self.old line.now).store }
+        ensures answer { result ≡ (step_line self.old line.now).answer }
+    {
+        self.execute(read_step(line))
+    }
 }

@@ -1,0 +1,43 @@
+// The cue lines of the script and of the queue, in rising order, written at a place of a lent buffer: whole or not at
+// all.
+ghost use Rattle.std.specs.Prelude.{◌≡◌, length};
+ghost use Rattle.buffers.specs.Written.{written_at};
+ghost use Rattle.scripts.specs.ScriptText.{text_of};
+
+use crate::Store;
+use buffers::Written;
+use script_texts::{cues_length, write_cues};
+
+impl Store {
+    // How many bytes the script's lines have.
+    pub fn script_length(&self) -> usize
+        ensures { result ≡ length (text_of self.now.state.script) }
+    {
+        let keys = self.object.script();
+        cues_length(keys, keys.len())
+    }
+
+    // How many bytes the queue's lines have.
+    pub fn queue_length(&self) -> usize
+        ensures { result ≡ length (text_of self.now.state.queue) }
+    {
+        let keys = self.object.queue();
+        cues_length(keys, keys.len())
+    }
+
+    // Writes the script's lines, if they fit.
+    pub fn write_script(&self, buf: &mut [u8], at: usize) -> Written
+        ensures { (result, buf.new) ≡ written_at buf.old at (text_of self.now.state.script) }
+    {
+        let keys = self.object.script();
+        write_cues(buf, at, keys, keys.len())
+    }
+
+    // Writes the queue's lines, if they fit.
+    pub fn write_queue(&self, buf: &mut [u8], at: usize) -> Written
+        ensures { (result, buf.new) ≡ written_at buf.old at (text_of self.now.state.queue) }
+    {
+        let keys = self.object.queue();
+        write_cues(buf, at, keys, keys.len())
+    }
+}
