@@ -4,11 +4,13 @@ use lib.Seq.{take-take}
 use Rattle.std.proofs.lemmas.List.{take_all}
 use Rattle.tables.specs.Table.{Ordered}
 use Rattle.tables.proofs.Laws.{Ordered-weaken}
-use Rattle.scripts.specs.Script.{keys_in, script_of}
-use Rattle.scripts.specs.declared.reading.Outcome.{Outcome}
+use Rattle.std.specs.Prelude.{Result, Ok, Err}
+use Rattle.refusals.specs.declared.RefusedText.{RefusedText}
+use Rattle.scripts.specs.Script.{keys_in, script_of, script_or_empty}
+use Rattle.store.specs.Answering.{opening}
 use Rattle.scripts.proofs.Theorems.{read_is_sound}
 use Rattle.boosting.specs.Object.{State}
-use Rattle.boosting.specs.Store.{Transaction, closed_transaction, started, opened}
+use Rattle.boosting.specs.Store.{Transaction, closed_transaction, Store, started, opened}
 use Rattle.boosting.specs.Room.{reserved_by, reserved_in, takes_by, takes_in}
 use Rattle.boosting.specs.Sound.{AllSound, Sound}
 use Rattle.boosting.proofs.Keeping.{closed_sound}
@@ -41,30 +43,15 @@ pub new-Sound : (s : State) (ts : List Transaction) → s ≡ started [] → ts 
     → Sound (record { state = s; transactions = ts })
 new-Sound s ts q r = subst Sound (sym (new_is s ts q r)) empty_sound
 
--- the first keys of a table, as many as it has
-keys_front : (n : ℕ) (l : List ℕ) → take (length (take n l)) l ≡ take n l
-keys_front zero l = refl
-keys_front (suc n) [] = refl
-keys_front (suc n) (x ∷ l) = ap (λ (m : List ℕ). x ∷ m) (keys_front n l)
+-- the store of a text, whose script these keys are
+module _ (text keys : List ℕ) (is : keys ≡ script_or_empty (script_of text)) where
+  pub in_order : Ordered 0 keys
+  in_order = subst (Ordered 0) (sym is) (Ordered-weaken 1 (script_or_empty (script_of text)) (read_is_sound text).rising)
 
-module _ (text keys : List ℕ) (o : Outcome) (n m : ℕ) (e : (o, keys_in keys n) ≡ script_of text)
-    (c : m ≡ length (keys_in keys n)) (h : m ≤ 256) where
-  keys_are : take m keys ≡ (script_of text).1
-  keys_are =
-      let g : length (keys_in keys n) ≤ 256 = omega (arith, c) in
-      rw c (sym (take-take (length (keys_in keys n)) 256 keys g) ∙ keys_front n (take 256 keys))
-      ∙ ap (λ (p : Outcome × List ℕ). p.1) e
-
-  pub in_order : Ordered 0 (take m keys)
-  in_order = subst (Ordered 0) (sym keys_are) (Ordered-weaken 1 (script_of text).1 (read_is_sound text).rising)
-
-  pub outcome_is : o ≡ (script_of text).0
-  outcome_is = ap (λ (p : Outcome × List ℕ). p.0) e
-
-  module _ (s : State) (ts : List Transaction) (q : s ≡ started (take m keys)) (r : ts ≡ replicate 8 closed_transaction) where
-    pub opened_is : record { state = s; transactions = ts } ≡ opened (script_of text).1
+  module _ (s : State) (ts : List Transaction) (q : s ≡ started keys) (r : ts ≡ replicate 8 closed_transaction) where
+    pub opened_is : record { state = s; transactions = ts } ≡ opened (script_or_empty (script_of text))
     unfolding opened
-    opened_is = λ i. record { state = (q ∙ ap started keys_are) i; transactions = r i }
+    opened_is = λ i. record { state = (q ∙ ap started is) i; transactions = r i }
 
     pub opened-Sound : Sound (record { state = s; transactions = ts })
     opened-Sound = subst Sound (sym opened_is) (opened_is_sound text)

@@ -1,6 +1,6 @@
 -- A call whose cue is out of range meets row 7 or an earlier one, whatever its key. Assumes nothing.
 use Prim.Native.Nat.{ℕ}
-use mathlib.Core.Path.{◌≡◌, refl, ap, sym, ◌∙◌}
+use mathlib.Core.Path.{◌≡◌, refl, sym, ◌∙◌}
 use mathlib.Core.Bool.{Bool, true, false}
 use mathlib.Core.List.{List, ◌∷◌}
 use Rattle.std.specs.Prelude.{Option, None, Some, Result, Ok, Err, if◌then◌else◌}
@@ -52,17 +52,17 @@ out_of_range_lem d e c c' = go (refusal_of d (request e (call false c))) refl
 
 -- ---- the request of a step
 
-pub asks : (s : Step) → Asks (request_of s) s
+pub asks : (s : Option Step) → Asks (request_of s) s
 asks s = record { alike = λ d. refl; key = request_key s }
 
 -- a word's call on the cue with the key k, which is that of the numbers if they are in range
 module _ (w : CueWord) (n : CueNumbers) (e k : ℕ) where
   pub Asks-in_range : in_range n.time n.«module» n.pin ≡ true
       → k ≡ key_of (record { time = n.time; «module» = n.«module»; pin = n.pin })
-      → Asks (request e (call true (cue_call w k))) (WithCue w e n)
-  Asks-in_range p h = rw (h, ← p) (asks (WithCue w e n))
+      → Asks (request e (call true (cue_call w k))) (Some (WithCue w e n))
+  Asks-in_range p h = rw (h, ← p) (asks (Some (WithCue w e n)))
 
-  pub Asks-out_of_range : in_range n.time n.«module» n.pin ≡ false → Asks (request e (call false (cue_call w k))) (WithCue w e n)
+  pub Asks-out_of_range : in_range n.time n.«module» n.pin ≡ false → Asks (request e (call false (cue_call w k))) (Some (WithCue w e n))
   Asks-out_of_range p = record {
     alike = λ d. rw p (out_of_range_lem d e (cue_call w k) (cue_call w _));
     key = λ t. absurd (let y : ◌≡◌ {A = ℕ} 0 1 = cc in omega arith);
@@ -85,10 +85,8 @@ ranged-Err n r = go (in_range n.time n.«module» n.pin)
     go true h = absurd (let z : ◌≡◌ {A = ℕ} 0 1 = cc in omega arith)
     go false h = refl
 
--- a malformed line is refused, and nothing changes
-pub malformed : (d : Store) (s : Step) (q : Option Request) → q ≡ None → Asks q s
+-- a line that is no step is refused, and nothing changes
+pub malformed : (d : Store) (s : Option Step) → s ≡ None
     → (d ≡ (step_on d (request_of s)).store) × (Refused MalformedLine ≡ (step_on d (request_of s)).answer)
 unfolding step_on
-malformed d s q p a =
-    let z : step_on d None ≡ step_on d (request_of s) = ap (step_on d) (sym p) ∙ a.alike d in
-    (ap (λ (o : Out). o.store) z, ap (λ (o : Out). o.answer) z)
+malformed d s p = rw p (refl, refl)

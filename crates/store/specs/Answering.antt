@@ -1,9 +1,7 @@
 -- What opening and stepping answer. Assumes nothing.
-use Rattle.std.specs.Prelude.{◌≡◌, Result, Ok, Err, Option}
+use Rattle.std.specs.Prelude.{ℕ, ◌≡◌, List, Result, Ok, Err, Option}
 use Rattle.refusals.specs.declared.Refusal.{Refusal}
 use Rattle.refusals.specs.declared.RefusedText.{RefusedText}
-use Rattle.scripts.specs.declared.reading.Outcome.{Outcome}
-use Rattle.scripts.specs.declared.reading.Outcome.TheVariants as outcome
 use Rattle.steps.specs.declared.reading.Step.{Step}
 use Rattle.answers.specs.declared.Answer.{Answer}
 use Rattle.answers.specs.declared.Answer.TheVariants.{Refused}
@@ -13,9 +11,9 @@ use Rattle.boosting.specs.Step.{step_on}
 use Rattle.boosting.specs.Sound.{RequestKey}
 
 -- an accepted text has no more to say; a refused one the row that it meets, and the line
-abbrev pub opening : Outcome → Result Unit RefusedText
-opening outcome.Accepted = Ok tt
-opening (outcome.Refused r n) = Err (record { refusal = r; line = n })
+abbrev pub opening : Result (List ℕ) RefusedText → Result Unit RefusedText
+opening (Ok script) = Ok tt
+opening (Err why) = Err why
 
 -- a refused step is answered by its row
 abbrev pub answered : Result Answer Refusal → Answer
@@ -23,6 +21,6 @@ answered (Ok a) = a
 answered (Err r) = Refused r
 
 -- the request asks what the step does: with either, every store does and answers the same
-pub record Asks (q : Option Request) (s : Step) : Type 0 where
+pub record Asks (q : Option Request) (s : Option Step) : Type 0 where
   pub alike : (d : Store) → step_on d q ≡ step_on d (request_of s)
   pub key : RequestKey q

@@ -43,7 +43,7 @@ fn cue_call(word: CueWord, key: u64) -> Call
 
 // What a word asks of the cue of these numbers. Out of range any key will do: row 7 or an earlier one is met.
 fn cue_action(word: CueWord, numbers: CueNumbers) -> Action
-    ensures { (transaction : ℕ) → Asks (request transaction result) (Step.WithCue word transaction numbers) }
+    ensures { (transaction : ℕ) → Asks (request transaction result) (Some (Step.WithCue word transaction numbers)) }
 {
     match Cue::try_from(numbers) {
         Ok(cue) => Action::OnObject(true, cue_call(word, cue.key())),
@@ -52,19 +52,18 @@ fn cue_action(word: CueWord, numbers: CueNumbers) -> Action
 }
 
 // What a step asks of the store.
-fn request_of(step: Step) -> Option<Request>
-    ensures { Asks result step }
+fn request_of(step: Step) -> Request
+    ensures { Asks (Some result) (Some step) }
 {
     match step {
-        Step::WithNumber(word, transaction) => Some(Request {
+        Step::WithNumber(word, transaction) => Request {
             transaction,
             action: number_action(word),
-        }),
-        Step::WithCue(word, transaction, numbers) => Some(Request {
+        },
+        Step::WithCue(word, transaction, numbers) => Request {
             transaction,
             action: cue_action(word, numbers),
-        }),
-        Step::Malformed => None,
+        },
     }
 }
 
@@ -98,15 +97,15 @@ impl Store {
         }
     }
 
-    // One step that has been read: refused with nothing changed, or accepted and done.
-    pub fn execute(&mut self, step: Step) -> Answer
+    // One step that has been read: refused with nothing changed, or accepted and done. A line that is no step is refused.
+    pub fn execute(&mut self, step: Option<Step>) -> Answer
         ensures store { self.new ≡ (step_on self.old (request_of step)).store }
         ensures answer { result ≡ (step_on self.old (request_of step)).answer }
     {
-        let Some(request) = request_of(step) else {
+        let Some(step) = step else {
             return Answer::Refused(Refusal::Malformed);
         };
-        match self.try_request(request) {
+        match self.try_request(request_of(step)) {
             Ok(answer) => answer,
             Err(refusal) => Answer::Refused(refusal),
         }

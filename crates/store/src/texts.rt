@@ -5,7 +5,7 @@ ghost use Rattle.buffers.specs.Written.{written_at};
 ghost use Rattle.scripts.specs.ScriptText.{text_of};
 
 use crate::Store;
-use buffers::Written;
+use refusals::Refusal;
 use script_texts::{cues_length, write_cues};
 
 impl Store {
@@ -26,7 +26,7 @@ impl Store {
     }
 
     // Writes the script's lines, if they fit.
-    pub fn write_script(&self, buf: &mut [u8], at: usize) -> Written
+    pub fn write_script(&self, buf: &mut [u8], at: usize) -> Result<usize, Refusal>
         ensures { (result, buf.new) ≡ written_at buf.old at (text_of self.now.state.script) }
     {
         let keys = self.object.script();
@@ -34,7 +34,7 @@ impl Store {
     }
 
     // Writes the queue's lines, if they fit.
-    pub fn write_queue(&self, buf: &mut [u8], at: usize) -> Written
+    pub fn write_queue(&self, buf: &mut [u8], at: usize) -> Result<usize, Refusal>
         ensures { (result, buf.new) ≡ written_at buf.old at (text_of self.now.state.queue) }
     {
         let keys = self.object.queue();
