@@ -1,3 +1,2 @@
--- Laws of the words and of the model, by the row that they decide.
-pub mod Entries
+-- Laws of the rows, group by group.
 pub mod Rows

@@ -1,284 +1,172 @@
--- The rows, decided one after another. Assumes nothing.
-use Prim.Native.Nat.{ℕ, ◌-◌, ◌≤◌, ◌<◌}
-use mathlib.Core.Path.{◌≡◌, refl, ap, sym, ◌∙◌}
-use mathlib.Core.Bool.{Bool, true, false, not, ◌&&◌}
-use mathlib.Core.List.{List, [], ◌∷◌}
-use Rattle.std.specs.Prelude.{Option, None, Some}
-use native.Mathlib.Omega.{arith}
-use borrow.Author.Tests.{le-leb, lt-leb}
-use lib.Dec.{leb}
-use lib.ListN.{length, get_or}
+-- The rows, group by group: the first that is met of one group, or else of the next. Assumes nothing.
+use Rattle.std.proofs.Common.{◌≡◌, ℕ, zero, suc, ◌-◌, ◌<◌, ◌≤◌, Bool, true, false, not, List, [], ◌∷◌, ◌++◌, length, get_or, refl, sym, ap, ◌∙◌, arith}
+use Rattle.std.specs.Prelude.{◌⊎◌, Option, None, Some, Result, Ok, Err, nat_le}
+use mathlib.Core.Logic.{inl, inr}
+use Rattle.std.proofs.lemmas.Bool.{le-leb, lt-leb}
+use Rattle.std.proofs.lemmas.List.{get_or_default}
 use Rattle.refusals.specs.declared.Refusal.{Refusal}
-use Rattle.refusals.specs.declared.Refusal.TheVariants.{
-  TransactionOutOfRange,
-  AlreadyBegun,
-  NotBegun,
-  Aborting,
-  NotAborting,
-  CueOutOfRange,
-  Blocked,
-  LocksFull,
-  UndoLogFull,
-  ScriptFull,
-  QueueFull,
-}
-use Rattle.boosting.specs.Object.{Call, reply}
+use Rattle.refusals.specs.declared.Refusal.TheVariants.{TransactionOutOfRange, CueOutOfRange, Blocked, LocksFull, UndoLogFull, ScriptFull, QueueFull}
+use Rattle.boosting.specs.Object.{Call, Reply, State, reply}
 use Rattle.boosting.specs.Undo.{Entry, added, removed, pushed, taken, entry_of}
-use Rattle.boosting.specs.Locks.{Lock, lock_of}
-use Rattle.boosting.specs.Store.{
-  Standing,
-  closed,
-  «open»,
-  aborting,
-  Transaction,
-  Store,
-  valid,
-  transaction,
-  blocker,
-}
-use Rattle.boosting.specs.Room.{reserved, queue_slots, locks_full, log_full, script_full, queue_full}
-use Rattle.boosting.specs.Rows.{
-  Action,
-  begin,
-  commit,
-  abort,
-  roll_back,
-  call,
-  request,
-  is_closed,
-  is_aborting,
-  is_begin,
-  is_roll_back,
-  cue_in_range,
-  when,
-  call_rows,
-  lock_rows,
-  first_met,
-  refusal_of,
-}
-use Rattle.transactions.specs.View.{transaction_of}
-use Rattle.store_words.specs.Words.{store_of}
-use Rattle.store_words.proofs.Places.{transaction_is}
-use Rattle.admission.specs.Answers.{closed_rows, aborting_rows, open_rows, room_rows}
+use Rattle.boosting.specs.Locks.{Lock, Locks, lock_of}
+use Rattle.boosting.specs.Store.{Standing, Transaction, closed_transaction, Store, valid, transaction, blocker}
+use Rattle.boosting.specs.Room.{reserved, queue_slots, locks_full, script_full}
+use Rattle.boosting.specs.Rows.{Request, cue_in_range, when, call_rows, first_met}
+use Rattle.admission.specs.Answers.{admitted, numbered, numbered_in, replied, standing_rows, step_rows, room_rows, store_of}
 
--- rows 10 to 12 by the entry, the log and the slots
-abbrev room_of : Option Entry → List Entry → List ℕ → ℕ → Option Refusal
-room_of n log slots places =
-    first_met
-    (when (log_full n log) UndoLogFull
-    ∷ when (script_full n slots) ScriptFull
-    ∷ when (queue_full n places) QueueFull
-    ∷ [])
+abbrev pub or_else : Option Refusal → Option Refusal → Option Refusal
+or_else None r = r
+or_else (Some q) r = Some q
 
-first_of_two : (b : Bool) (r : Refusal) → first_met (when b r ∷ None ∷ []) ≡ when b r
+pub first_met-append : (xs ys : List (Option Refusal)) → first_met (xs ++ ys) ≡ or_else (first_met xs) (first_met ys)
 unfolding first_met
-first_of_two true r = refl
-first_of_two false r = refl
+first_met-append [] ys = refl
+first_met-append (None ∷ xs) ys = first_met-append xs ys
+first_met-append (Some r ∷ xs) ys = refl
 
-last_of_two : (b : Bool) (r : Refusal) → first_met (None ∷ when b r ∷ []) ≡ when b r
+first_met-one : (b : Bool) (r : Refusal) → first_met (when b r ∷ []) ≡ when b r
 unfolding first_met
-last_of_two true r = refl
-last_of_two false r = refl
+first_met-one true r = refl
+first_met-one false r = refl
 
-module _ (log : List Entry) (slots : List ℕ) (places : ℕ) where
-  full : (n : Entry) → 16 ≤ length log → Some UndoLogFull ≡ room_of (Some n) log slots places
+-- ---- rows 2 to 7
+
+-- the transaction of a number 1 to 8 stands at the place before it
+pub numbered-place : (ts : List Transaction) (e : ℕ) (t : Transaction) → 1 ≤ e → e ≤ length ts → numbered_in ts e ≡ get_or ts (e - 1) t
+numbered-place ts zero t h k = absurd (omega arith)
+numbered-place ts (suc i) t h k =
+    let n : suc i - 1 ≡ i = omega arith in
+    rw n (get_or_default ts i closed_transaction t (omega arith))
+
+pub valid_in : (e : ℕ) → 1 ≤ e → e ≤ 8 → valid e ≡ true
+valid_in e h k = rw (le-leb 1 e h, le-leb e 8 k) refl
+
+pub valid_below : (e : ℕ) → e < 1 → valid e ≡ false
+valid_below e h = rw (lt-leb 1 e h) refl
+
+pub valid_above : (e : ℕ) → 8 < e → valid e ≡ false
+valid_above e h = rw (le-leb 1 e (omega arith), lt-leb e 8 h) refl
+
+module _ (s : Standing) (q : Request) where
+  pub step-number : valid q.transaction ≡ false → first_met (step_rows s q) ≡ Some TransactionOutOfRange
   unfolding first_met
-  full n h = rw (le-leb 16 (length log) h)
+  step-number h = rw h refl
 
-  module _ (h : length log < 16) (k : ℕ) where
-    room : leb 16 (length log) ≡ false
-    room = lt-leb 16 (length log) h
-
-    script_room : when (script_full (Some (added k)) slots) ScriptFull ≡ room_of (Some (added k)) log slots places
+  module _ (v : valid q.transaction ≡ true) where
+    step-rest : first_met (step_rows s q) ≡ or_else (first_met (standing_rows s q.action)) (when (not (cue_in_range q.action)) CueOutOfRange)
     unfolding first_met
-    script_room = rw room (sym (first_of_two (script_full (Some (added k)) slots) ScriptFull))
+    step-rest =
+        rw v (first_met-append (standing_rows s q.action) (when (not (cue_in_range q.action)) CueOutOfRange ∷ [])
+        ∙ ap (or_else (first_met (standing_rows s q.action))) (first_met-one _ _))
 
-    removed_room : None ≡ room_of (Some (removed k)) log slots places
-    unfolding first_met
-    removed_room = rw room
+    pub step-standing : (r : Refusal) → first_met (standing_rows s q.action) ≡ Some r → first_met (step_rows s q) ≡ Some r
+    step-standing r h = step-rest ∙ rw h refl
 
-    queue_room : when (leb 64 places) QueueFull ≡ room_of (Some (pushed k)) log slots places
-    unfolding first_met
-    queue_room = rw room (sym (last_of_two (leb 64 places) QueueFull))
+    pub step-cue : (b : Bool) → first_met (standing_rows s q.action) ≡ None → cue_in_range q.action ≡ b
+        → first_met (step_rows s q) ≡ when (not b) CueOutOfRange
+    step-cue b h c = step-rest ∙ rw (h, c) refl
 
-    taken_room : None ≡ room_of (Some (taken k)) log slots places
-    unfolding first_met
-    taken_room = rw room
+-- what an answer says of the row
+pub admitted-Ok : (o : Option Refusal) (u : Unit {0}) → Ok u ≡ admitted o → o ≡ None
+admitted-Ok None u e = refl
+admitted-Ok (Some r) u e = cc
 
--- the same of the words, for the entry n and the log's length m
-module _ (s q : List ℕ) (ts : List (List ℕ)) (e : ℕ) (n : Option Entry) where
-  abbrev d : Store
-  d = store_of s q ts
+pub admitted-Err : (o : Option Refusal) (r : Refusal) → Err r ≡ admitted o → o ≡ Some r
+admitted-Err None r e = cc
+admitted-Err (Some q) r e = cc
 
-  abbrev rows : Option Entry → Option Refusal
-  rows x = first_met (room_rows d e x)
+pub valid_out : (e : ℕ) → (e < 1) ⊎ ((1 ≤ e) × (8 < e)) → valid e ≡ false
+valid_out e (inl h) = valid_below e h
+valid_out e (inr h) = valid_above e h.1
 
-  pub no_entry : n ≡ None → None ≡ rows n
+-- the answers of `try_step`, by the row
+module _ (ts : List Transaction) (q : Request) where
+  abbrev step_answer : Result ℕ Refusal
+  step_answer = numbered (first_met (step_rows (numbered_in ts q.transaction).standing q)) q.transaction
+
+  pub out_of_range : (q.transaction < 1) ⊎ ((1 ≤ q.transaction) × (8 < q.transaction)) → Err TransactionOutOfRange ≡ step_answer
+  out_of_range h = rw (step-number (numbered_in ts q.transaction).standing q (valid_out q.transaction h)) refl
+
+  module _ (lo : 1 ≤ q.transaction) (hi : q.transaction ≤ 8) (l : length ts ≡ 8) (t : Transaction) (s : Standing)
+      (is : s ≡ (get_or ts (q.transaction - 1) t).standing) where
+    here : (numbered_in ts q.transaction).standing ≡ s
+    here = ap (λ (x : Transaction). x.standing) (numbered-place ts q.transaction t lo (omega arith)) ∙ sym is
+
+    pub by_standing : (r : Refusal) → Err r ≡ admitted (first_met (standing_rows s q.action)) → Err r ≡ step_answer
+    by_standing r e = rw (here, step-standing s q (valid_in q.transaction lo hi) r (admitted-Err _ r e)) refl
+
+    module _ (u : Unit {0}) (e : Ok u ≡ admitted (first_met (standing_rows s q.action))) where
+      row7 : (b : Bool) → cue_in_range q.action ≡ b → step_answer ≡ numbered (when (not b) CueOutOfRange) q.transaction
+      row7 b c = rw (here, step-cue s q (valid_in q.transaction lo hi) b (admitted-Ok _ u e) c) refl
+
+      pub by_cue : cue_in_range q.action ≡ false → Err CueOutOfRange ≡ step_answer
+      by_cue c = sym (row7 false c)
+
+      pub goes_on : cue_in_range q.action ≡ true → Ok q.transaction ≡ step_answer
+      goes_on c = sym (row7 true c)
+
+-- ---- rows 10 to 12
+module _ (d : Store) (e : ℕ) (n : Option Entry) where
+  abbrev room_answer : Result Unit Refusal
+  room_answer = admitted (first_met (room_rows d e n))
+
+  pub no_entry : n ≡ None → Ok tt ≡ room_answer
   unfolding first_met
-  no_entry h = ap rows (sym h)
+  no_entry q = rw q refl
 
-  module _ (lo : 1 ≤ e) (m : ℕ) (is : m ≡ length (transaction_of (get_or ts (e - 1) [])).log) where
-    log-length : m ≡ length (transaction d e).log
-    log-length = is ∙ ap (λ (t : Transaction). length t.log) (sym (transaction_is s q ts e lo))
-
-    pub log_full_lem : (x : Entry) → n ≡ Some x → 16 ≤ m → Some UndoLogFull ≡ rows n
-    log_full_lem x h g =
-        full (transaction d e).log (reserved d) (queue_slots d) x (omega (arith, log-length)) ∙ ap rows (sym h)
-
-    module _ (k : ℕ) (g : m < 16) where
-      left : length (transaction d e).log < 16
-      left = omega (arith, log-length)
-
-      pub adds : n ≡ Some (added k) → when (script_full (Some (added k)) (reserved d)) ScriptFull ≡ rows n
-      adds h = script_room (transaction d e).log (reserved d) (queue_slots d) left k ∙ ap rows (sym h)
-
-      pub removes : n ≡ Some (removed k) → None ≡ rows n
-      removes h = removed_room (transaction d e).log (reserved d) (queue_slots d) left k ∙ ap rows (sym h)
-
-      pub pushes : n ≡ Some (pushed k) → when (leb 64 (queue_slots d)) QueueFull ≡ rows n
-      pushes h = queue_room (transaction d e).log (reserved d) (queue_slots d) left k ∙ ap rows (sym h)
-
-      pub takes : n ≡ Some (taken k) → None ≡ rows n
-      takes h = taken_room (transaction d e).log (reserved d) (queue_slots d) left k ∙ ap rows (sym h)
-
--- rows 8 to 12 by the lock
-module _ (d : Store) (e : ℕ) (c : Call) (l : Lock) (is : l ≡ lock_of c) where
-  pub blocked : (f : ℕ) → Some f ≡ blocker e l 1 d.transactions → Some (Blocked f) ≡ first_met (call_rows d e c)
-  unfolding first_met
-  blocked f h =
-      let q : blocker e (lock_of c) 1 d.transactions ≡ Some f =
-      sym (h ∙ ap (λ (x : Lock). blocker e x 1 d.transactions) is) in
-      rw q
-
-  module _ (free : None ≡ blocker e l 1 d.transactions) where
-    nobody : blocker e (lock_of c) 1 d.transactions ≡ None
-    nobody = sym (free ∙ ap (λ (x : Lock). blocker e x 1 d.transactions) is)
-
-    with_lock_lem : (b : Bool) → b ≡ locks_full l (transaction d e).locks
-        → locks_full (lock_of c) (transaction d e).locks ≡ b
-    with_lock_lem b h = sym (h ∙ ap (λ (x : Lock). locks_full x (transaction d e).locks) is)
-
-    pub locks_full_lem : true ≡ locks_full l (transaction d e).locks → Some LocksFull ≡ first_met (call_rows d e c)
+  module _ (log : List Entry) (is : (transaction d e).log ≡ log) where
+    pub log_row : (x : Entry) → n ≡ Some x → 16 ≤ length log → Err UndoLogFull ≡ room_answer
     unfolding first_met
-    locks_full_lem h = rw (nobody, with_lock_lem true h)
+    log_row x q h = rw (q, is, le-leb 16 (length log) h) refl
 
-    pub locks_free : false ≡ locks_full l (transaction d e).locks
-        → (n : Option Entry) → n ≡ entry_of c (reply c d.state) → first_met (room_rows d e n) ≡ first_met (call_rows d e c)
+    module _ (h : length log < 16) (k : ℕ) where
+      pub script_row : (b : Bool) → n ≡ Some (added k) → b ≡ script_full (Some (added k)) (reserved d)
+          → admitted (when b ScriptFull) ≡ room_answer
+      unfolding first_met
+      script_row true q p = rw (q, is, lt-leb 16 (length log) h, ← p) refl
+      script_row false q p = rw (q, is, lt-leb 16 (length log) h, ← p) refl
+
+      pub queue_row : (b : Bool) → n ≡ Some (pushed k) → b ≡ nat_le 64 (queue_slots d)
+          → admitted (when b QueueFull) ≡ room_answer
+      unfolding first_met
+      queue_row true q p = rw (q, is, lt-leb 16 (length log) h, ← p) refl
+      queue_row false q p = rw (q, is, lt-leb 16 (length log) h, ← p) refl
+
+    -- a remove entry keeps the slot that its cue has, a take entry that of the queue
+    pub kept_row : length log < 16 → (x : Entry) → n ≡ Some x
+        → ((k : ℕ) × x ≡ removed k) ⊎ ((k : ℕ) × x ≡ taken k) → Ok tt ≡ room_answer
     unfolding first_met
-    locks_free h n q = ap (λ (y : Option Entry). first_met (room_rows d e y)) q ∙ rw (nobody, with_lock_lem false h)
+    kept_row h x q (inl p) = rw (q, p.1, is, lt-leb 16 (length log) h) refl
+    kept_row h x q (inr p) = rw (q, p.1, is, lt-leb 16 (length log) h) refl
 
--- all rows by the number and the standing
-abbrev rows_with : Bool → Standing → Store → ℕ → Action → Option Refusal
-rows_with v s d e a =
-    first_met
-    (when (not v) TransactionOutOfRange
-    ∷ when (is_begin a && not (is_closed s)) AlreadyBegun
-    ∷ when (not (is_begin a) && is_closed s) NotBegun
-    ∷ when (not (is_begin a) && not (is_roll_back a) && is_aborting s) Aborting
-    ∷ when (is_roll_back a && not (is_aborting s)) NotAborting
-    ∷ when (not (cue_in_range a)) CueOutOfRange
-    ∷ lock_rows d e a)
+-- ---- rows 8 to 12
+module _ (d : Store) (e : ℕ) (c : Call) (l : Lock) (le : l ≡ lock_of c) where
+  abbrev call_answer : Result Reply Refusal
+  call_answer = replied (first_met (call_rows d e c)) (reply c d.state)
 
-by_standing : (v : Bool) (s : Standing) (d : Store) (e : ℕ) (a : Action) → valid e ≡ v
-    → (transaction d e).standing ≡ s → rows_with v s d e a ≡ refusal_of d (request e a)
-unfolding refusal_of
-by_standing v s d e a p q =
-    sym (ap (λ (x : Bool). rows_with x (transaction d e).standing d e a) p
-    ∙ ap (λ (x : Standing). rows_with v x d e a) q)
-
-pub out_of_range_lem : (d : Store) (e : ℕ) (a : Action) → valid e ≡ false
-    → Some TransactionOutOfRange ≡ refusal_of d (request e a)
-unfolding first_met
-out_of_range_lem d e a p = by_standing false (transaction d e).standing d e a p refl
-
-closed_rows_lem : (d : Store) (e : ℕ) (a : Action) → closed_rows a ≡ rows_with true closed d e a
-unfolding first_met
-closed_rows_lem d e begin = refl
-closed_rows_lem d e commit = refl
-closed_rows_lem d e abort = refl
-closed_rows_lem d e roll_back = refl
-closed_rows_lem d e (call b c) = refl
-
-aborting_rows_lem : (d : Store) (e : ℕ) (a : Action) → aborting_rows a ≡ rows_with true aborting d e a
-unfolding first_met
-aborting_rows_lem d e begin = refl
-aborting_rows_lem d e commit = refl
-aborting_rows_lem d e abort = refl
-aborting_rows_lem d e roll_back = refl
-aborting_rows_lem d e (call b c) = refl
-
-open_rows_lem : (d : Store) (e : ℕ) (a : Action) → first_met (open_rows d e a) ≡ rows_with true «open» d e a
-unfolding first_met
-open_rows_lem d e begin = refl
-open_rows_lem d e commit = refl
-open_rows_lem d e abort = refl
-open_rows_lem d e roll_back = refl
-open_rows_lem d e (call b c) = refl
-
--- the rows of an open transaction, by the action
-module _ (d : Store) (e : ℕ) (a : Action) where
-  of : (b : Action) → a ≡ b → first_met (open_rows d e b) ≡ first_met (open_rows d e a)
-  of b h = ap (λ (x : Action). first_met (open_rows d e x)) (sym h)
-
-  pub open_begin : a ≡ begin → Some AlreadyBegun ≡ first_met (open_rows d e a)
+  pub blocked : (f : ℕ) → Some f ≡ blocker e l 1 d.transactions → Err (Blocked f) ≡ call_answer
   unfolding first_met
-  open_begin = of begin
+  blocked f h = rw (← le, ← h) refl
 
-  pub open_commit : a ≡ commit → None ≡ first_met (open_rows d e a)
-  unfolding first_met
-  open_commit = of commit
-
-  pub open_abort : a ≡ abort → None ≡ first_met (open_rows d e a)
-  unfolding first_met
-  open_abort = of abort
-
-  pub open_roll_back : a ≡ roll_back → Some NotAborting ≡ first_met (open_rows d e a)
-  unfolding first_met
-  open_roll_back = of roll_back
-
-  module _ (b : Bool) (c : Call) (h : a ≡ call b c) where
-    as_range : (r : Bool) → not b ≡ r → first_met (when r CueOutOfRange ∷ call_rows d e c) ≡ first_met (open_rows d e a)
+  module _ (free : None ≡ blocker e l 1 d.transactions) (ls : Locks) (is : (transaction d e).locks ≡ ls) where
+    pub locks_row : true ≡ locks_full l ls → Err LocksFull ≡ call_answer
     unfolding first_met
-    as_range r g = ap (λ (x : Bool). first_met (when x CueOutOfRange ∷ call_rows d e c)) (sym g) ∙ of (call b c) h
+    locks_row h = rw (← le, ← free, is, ← h) refl
 
-    pub open_out : not b ≡ true → Some CueOutOfRange ≡ first_met (open_rows d e a)
-    unfolding first_met
-    open_out = as_range true
+    module _ (h : false ≡ locks_full l ls) (n : Option Entry) (ne : n ≡ entry_of c (reply c d.state)) where
+      room : call_answer ≡ replied (first_met (room_rows d e n)) (reply c d.state)
+      unfolding first_met
+      room = rw (← le, ← free, is, ← h, ne) refl
 
-    pub open_call : not b ≡ false → first_met (call_rows d e c) ≡ first_met (open_rows d e a)
-    unfolding first_met
-    open_call = as_range false
+      pub room_row : (r : Refusal) → Err r ≡ admitted (first_met (room_rows d e n)) → Err r ≡ call_answer
+      room_row r q = sym (room ∙ rw (admitted-Err _ r q) refl)
 
--- the number as the code tests it
-valid_in : (e : ℕ) → 1 ≤ e → e ≤ 8 → valid e ≡ true
-valid_in e h g = rw (le-leb 1 e h, le-leb e 8 g)
+      pub no_row : (u : Unit {0}) → Ok u ≡ admitted (first_met (room_rows d e n)) → Ok (reply c d.state) ≡ call_answer
+      no_row u q = sym (room ∙ rw (admitted-Ok _ u q) refl)
 
-pub valid_low : (e : ℕ) → e < 1 → valid e ≡ false
-valid_low e h = rw (lt-leb 1 e h)
-
-pub valid_high : (e : ℕ) → 8 < e → valid e ≡ false
-valid_high e h =
-    let g : 1 ≤ e = omega arith in
-    rw (le-leb 1 e g, lt-leb e 8 h)
-
--- the first row by the standing that the words show
-module _ (s q : List ℕ) (ts : List (List ℕ)) (e : ℕ) (a : Action) (lo : 1 ≤ e) (hi : e ≤ 8) where
-  abbrev store : Store
-  store = store_of s q ts
-
-  abbrev Stands : Standing → Type 0
-  Stands m = m ≡ (transaction_of (get_or ts (e - 1) [])).standing
-
-  stands : (m : Standing) → Stands m → rows_with true m store e a ≡ refusal_of store (request e a)
-  stands m h =
-      by_standing true m store e a (valid_in e lo hi)
-      (ap (λ (t : Transaction). t.standing) (transaction_is s q ts e lo) ∙ sym h)
-
-  pub when_closed : Stands closed → closed_rows a ≡ refusal_of store (request e a)
-  when_closed h = closed_rows_lem store e a ∙ stands closed h
-
-  pub when_open : Stands «open» → first_met (open_rows store e a) ≡ refusal_of store (request e a)
-  when_open h = open_rows_lem store e a ∙ stands «open» h
-
-  pub when_aborting : Stands aborting → aborting_rows a ≡ refusal_of store (request e a)
-  when_aborting h = aborting_rows_lem store e a ∙ stands aborting h
+-- the transaction of the store
+pub transaction-place : (s : State) (ts : List Transaction) (e : ℕ) (t : Transaction) → 1 ≤ e → e ≤ length ts
+    → transaction (store_of s ts) e ≡ get_or ts (e - 1) t
+unfolding transaction
+transaction-place s ts zero t h k = absurd (omega arith)
+transaction-place s ts (suc i) t h k = numbered-place ts (suc i) t h k

@@ -1,2 +1,2 @@
--- What the code's answers mean.
+-- What the code's answers mean, and the rows that each function decides.
 pub mod Answers

@@ -1,78 +1,90 @@
-// Admission: whether a request to the store is accepted, or the refusal of the first row that turns it away.
+// Admission: the rows of the table that turn a request away, in their order.
 //
-// The store is read where it stands (`store_words`) and nothing is changed. The search for a lock in the way
-// (`conflicts`) and the count of slots (`slots`) come last, as the rows do; a `requires` asks for what opening and
-// stepping establish of the words.
+// One function decides a group of rows, and leaves at the first that is met: rows 2 to 7 look at the request and at how
+// its transaction stands, rows 8 to 12 at what a call needs. The search for a lock in the way (`conflicts`) and the
+// count of slots (`slots`) come last, as the rows do. Nothing is changed.
 #![tactic(auto)]
 
 ghost use Rattle.std.specs.Prelude.{◌≡◌, ◌≤◌};
-ghost use Rattle.tables.specs.Table.{Ordered, member_of};
-ghost use Rattle.boosting.specs.Object.{reply};
+ghost use Rattle.boosting.specs.Object.{reply as reply_of};
 ghost use Rattle.boosting.specs.Undo.{entry_of};
-ghost use Rattle.boosting.specs.Rows.{when, call_rows, first_met, request, refusal_of};
-ghost use Rattle.store_words.specs.Words.{
-  ScriptFits,
-  QueueFits,
-  script_in,
-  state_of,
-  store_of,
-  StoreFits,
-};
+ghost use Rattle.boosting.specs.Rows.{cue_in_range, when, call_rows, first_met};
 ghost use Rattle.admission.specs.Answers.{
   admitted,
-  closed_rows,
-  aborting_rows,
-  open_rows,
+  numbered,
+  numbered_in,
+  replied,
+  standing_rows,
+  step_rows,
   room_rows,
+  store_of,
 };
 
 use conflicts::find_blocker;
-use counted_tables::has_key;
 use refusals::Refusal;
+use shared_object::{SharedObject, entry_of, lock_of};
 use slots::{queue_full, script_full};
-use store_words::{QUEUE_COUNT, SCRIPT_COUNT, lock_of};
-use vocabulary::{Action, Call, Entry, Standing};
+use transactions::Transaction;
+use vocabulary::{Action, Call, Entry, Reply, Request, Standing};
 
-// Whether the cue is in the script.
-fn in_script(script: &[u64; 257], key: u64) -> bool
-    requires { ScriptFits script.now × Ordered 1 (script_in script.now) }
-    ensures { result ≡ member_of key (script_in script.now) }
+// Rows 3 to 6: a closed transaction can only begin, an aborting one only roll back, an open one all but these.
+#[inline(always)]
+#[tactic(auto, unfolding(boosting::specs::Rows::first_met))]
+fn try_standing(standing: Standing, action: Action) -> Result<(), Refusal>
+    ensures { result ≡ admitted (first_met (standing_rows standing action)) }
 {
-    has_key(script, SCRIPT_COUNT, key)
-}
-
-// The entry that the call would note, which would be the newest.
-fn entry_of(script: &[u64; 257], queue: &[u64; 65], call: Call) -> Option<Entry>
-    requires { ScriptFits script.now × Ordered 1 (script_in script.now) × QueueFits queue.now }
-    ensures { result
-        ≡ entry_of call (reply call (state_of script.now queue.now)) }
-{
-    match call {
-        Call::Add(key) => {
-            if in_script(script, key) {
-                return None;
+    match standing {
+        Standing::Closed => match action {
+            Action::Begin => Ok(()),
+            Action::Commit | Action::Abort | Action::RollBack | Action::OnObject(_, _) => {
+                Err(Refusal::NotBegun)
             }
-            Some(Entry::Added(key))
-        }
-        Call::Remove(key) => {
-            if in_script(script, key) {
-                return Some(Entry::Removed(key));
-            }
-            None
-        }
-        Call::Has(_) => None,
-        Call::Push(key) => Some(Entry::Pushed(key)),
-        Call::Min => None,
-        Call::Take => {
-            if queue[QUEUE_COUNT] == 0 {
-                return None;
-            }
-            Some(Entry::Taken(queue[0]))
-        }
+        },
+        Standing::Open => match action {
+            Action::Begin => Err(Refusal::AlreadyBegun),
+            Action::RollBack => Err(Refusal::NotAborting),
+            Action::Commit | Action::Abort | Action::OnObject(_, _) => Ok(()),
+        },
+        Standing::Aborting => match action {
+            Action::Begin => Err(Refusal::AlreadyBegun),
+            Action::RollBack => Ok(()),
+            Action::Commit | Action::Abort | Action::OnObject(_, _) => Err(Refusal::Aborting),
+        },
     }
 }
 
-// The refusal where its row is met.
+// Whether row 7 lets the action pass: only a call has a cue.
+#[inline(always)]
+fn cue_in_range(action: Action) -> bool
+    ensures { result ≡ cue_in_range action }
+{
+    match action {
+        Action::OnObject(in_range, _) => in_range,
+        Action::Begin | Action::Commit | Action::Abort | Action::RollBack => true,
+    }
+}
+
+// Rows 2 to 7: the number of the transaction, where none is met.
+#[inline(always)]
+pub fn try_step(transactions: &[Transaction; 8], request: Request) -> Result<usize, Refusal>
+    ensures { result
+        ≡ numbered
+        (first_met (step_rows (numbered_in transactions.now request.transaction).standing request))
+        request.transaction }
+{
+    if request.transaction < 1 || 8 < request.transaction {
+        return Err(Refusal::TransactionOutOfRange);
+    }
+    let e = request.transaction as usize;
+    try_standing(transactions[e - 1].standing(), request.action)?;
+    if !cue_in_range(request.action) {
+        return Err(Refusal::CueOutOfRange);
+    }
+    Ok(e)
+}
+
+// The refusal, where its row is met.
+#[inline(always)]
 fn refused_when(met: bool, refusal: Refusal) -> Result<(), Refusal>
     ensures { result ≡ admitted (when met refusal) }
 {
@@ -82,130 +94,55 @@ fn refused_when(met: bool, refusal: Refusal) -> Result<(), Refusal>
     Ok(())
 }
 
-// Rows 10 to 12: room for the entry that a call would note, and for its slot.
-fn admit_entry(
-    script: &[u64; 257],
-    queue: &[u64; 65],
-    ts: &[[u64; 64]; 8],
+// Rows 10 to 12: room for the entry that a call notes, and for its slot.
+#[inline(always)]
+fn try_entry(
+    object: &SharedObject,
+    transactions: &[Transaction; 8],
     e: usize,
-    entry: Option<Entry>,
+    noted: Option<Entry>,
 ) -> Result<(), Refusal>
-    requires fits { StoreFits script.now queue.now ts.now }
-    requires number { (1 ≤ e) × (e ≤ 8) }
-    ensures { result
-        ≡ admitted (first_met (room_rows (store_of script.now queue.now ts.now) e entry)) }
+    requires lowest { 1 ≤ e }
+    requires highest { e ≤ 8 }
+    ensures { result ≡ admitted (first_met (room_rows (store_of object.now transactions.now) e noted)) }
 {
-    let Some(noted) = entry else {
+    let Some(entry) = noted else {
         return Ok(());
     };
-    if 16 <= undo_logs::entry_count(&ts[e - 1]) {
+    if 16 <= transactions[e - 1].log().len() {
         return Err(Refusal::UndoLogFull);
     }
-    match noted {
-        Entry::Added(key) => refused_when(script_full(script, ts, key), Refusal::ScriptFull),
-        Entry::Removed(_) => Ok(()),
-        Entry::Pushed(_) => refused_when(queue_full(queue, ts), Refusal::QueueFull),
-        Entry::Taken(_) => Ok(()),
+    match entry {
+        Entry::Added(key) => refused_when(
+            script_full(object, transactions, key),
+            Refusal::ScriptFull,
+        ),
+        Entry::Pushed(_) => refused_when(queue_full(object, transactions), Refusal::QueueFull),
+        Entry::Removed(_) | Entry::Taken(_) => Ok(()),
     }
 }
 
-// Rows 8 to 12, those of a call.
-fn admit_call(
-    script: &[u64; 257],
-    queue: &[u64; 65],
-    ts: &[[u64; 64]; 8],
+// Rows 8 to 12, those of a call of transaction e: its reply, where none is met.
+#[inline(always)]
+pub fn try_call(
+    object: &SharedObject,
+    transactions: &[Transaction; 8],
     e: usize,
     call: Call,
-) -> Result<(), Refusal>
-    requires fits { StoreFits script.now queue.now ts.now }
-    requires number { (1 ≤ e) × (e ≤ 8) }
+) -> Result<Reply, Refusal>
+    requires lowest { 1 ≤ e }
+    requires highest { e ≤ 8 }
     ensures { result
-        ≡ admitted (first_met (call_rows (store_of script.now queue.now ts.now) e call)) }
+        ≡ replied (first_met (call_rows (store_of object.now transactions.now) e call)) (reply_of call object.now) }
 {
     let lock = lock_of(call);
-    if let Some(f) = find_blocker(ts, e, lock) {
-        return Err(Refusal::Blocked(f));
+    if let Some(holder) = find_blocker(transactions, e, lock) {
+        return Err(Refusal::Blocked(holder));
     }
-    if held_locks::locks_full(&ts[e - 1], lock) {
+    if transactions[e - 1].locks().is_full(lock) {
         return Err(Refusal::LocksFull);
     }
-    let entry = entry_of(script, queue, call);
-    admit_entry(script, queue, ts, e, entry)
-}
-
-// The rows of a closed transaction: it can only begin.
-fn admit_closed(action: Action) -> Result<(), Refusal>
-    ensures { result ≡ admitted (closed_rows action) }
-{
-    match action {
-        Action::Begin => Ok(()),
-        Action::Commit => Err(Refusal::NotBegun),
-        Action::Abort => Err(Refusal::NotBegun),
-        Action::RollBack => Err(Refusal::NotBegun),
-        Action::OnObject(_, _) => Err(Refusal::NotBegun),
-    }
-}
-
-// The rows of an aborting transaction: it can only roll back.
-fn admit_aborting(action: Action) -> Result<(), Refusal>
-    ensures { result ≡ admitted (aborting_rows action) }
-{
-    match action {
-        Action::Begin => Err(Refusal::AlreadyBegun),
-        Action::Commit => Err(Refusal::Aborting),
-        Action::Abort => Err(Refusal::Aborting),
-        Action::RollBack => Ok(()),
-        Action::OnObject(_, _) => Err(Refusal::Aborting),
-    }
-}
-
-// The rows of an open transaction.
-fn admit_open(
-    script: &[u64; 257],
-    queue: &[u64; 65],
-    ts: &[[u64; 64]; 8],
-    e: usize,
-    action: Action,
-) -> Result<(), Refusal>
-    requires fits { StoreFits script.now queue.now ts.now }
-    requires number { (1 ≤ e) × (e ≤ 8) }
-    ensures { result
-        ≡ admitted (first_met (open_rows (store_of script.now queue.now ts.now) e action)) }
-{
-    match action {
-        Action::Begin => Err(Refusal::AlreadyBegun),
-        Action::Commit => Ok(()),
-        Action::Abort => Ok(()),
-        Action::RollBack => Err(Refusal::NotAborting),
-        Action::OnObject(in_range, call) => {
-            if !in_range {
-                return Err(Refusal::CueOutOfRange);
-            }
-            admit_call(script, queue, ts, e, call)
-        }
-    }
-}
-
-// The refusal of the first row that turns the request away: row 2 by the number, the others by how the transaction
-// stands.
-pub fn admit(
-    script: &[u64; 257],
-    queue: &[u64; 65],
-    ts: &[[u64; 64]; 8],
-    e: u64,
-    action: Action,
-) -> Result<(), Refusal>
-    requires { StoreFits script.now queue.now ts.now }
-    ensures { result
-        ≡ admitted (refusal_of (store_of script.now queue.now ts.now) (request e action)) }
-{
-    if e < 1 || 8 < e {
-        return Err(Refusal::TransactionOutOfRange);
-    }
-    let n = e as usize;
-    match transactions::standing_of(&ts[n - 1]) {
-        Standing::Closed => admit_closed(action),
-        Standing::Open => admit_open(script, queue, ts, n, action),
-        Standing::Aborting => admit_aborting(action),
-    }
+    let reply = object.reply(call);
+    try_entry(object, transactions, e, entry_of(call, reply))?;
+    Ok(reply)
 }

@@ -3,7 +3,7 @@ use Prim.Native.Nat.{ℕ, ◌<◌}
 use mathlib.Core.Path.{◌≡◌, ap, ◌∙◌}
 use mathlib.Core.Bool.{false}
 use mathlib.Core.List.{List}
-use mathlib.Core.Option.{some}
+use Rattle.std.specs.Prelude.{Some}
 use native.Mathlib.Omega.{arith}
 use borrow.Author.Tests.{leb-false}
 use lib.Dec.{leb}
@@ -20,5 +20,5 @@ module _ (w : List ℕ) (l : Lock) (t : Transaction) (m : Made w (with_lock l t)
       let e : length (transaction_of w).log ≡ length t.log = ap (λ (x : Transaction). length x.log) m.is in
       (m.fits, omega (arith, e, leb-false 16 (length t.log) h))
 
-  pub entered_both : (n : Entry) (u : List ℕ) → Made u (with_entry n (transaction_of w)) → Made u (entered l (some n) t)
+  pub entered_both : (n : Entry) (u : List ℕ) → Made u (with_entry n (transaction_of w)) → Made u (entered l (Some n) t)
   entered_both n u k = record { is = k.is ∙ ap (with_entry n) m.is; fits = k.fits }

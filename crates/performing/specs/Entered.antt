@@ -1,5 +1,5 @@
 -- What a call leaves in its transaction. Assumes nothing.
-use Rattle.std.proofs.Math.Option.{Option}
+use Rattle.std.specs.Prelude.{Option}
 use Rattle.boosting.specs.Undo.{Entry, noted}
 use Rattle.boosting.specs.Locks.{Lock, hold}
 use Rattle.boosting.specs.Store.{Transaction}

@@ -9,10 +9,7 @@ ghost use Rattle.boosting.specs.Room.{locks_full, log_full};
 ghost use Rattle.boosting.specs.Rows.{call as call_m};
 ghost use Rattle.boosting.specs.Step.{perform as performM};
 ghost use Rattle.transactions.specs.View.{WordsFit, Made, transaction_of};
-ghost use Rattle.transactions.specs.Code.{model_lock};
-ghost use Rattle.undo_logs.specs.Code.{model_newest};
 ghost use Rattle.store_words.specs.Words.{store_of};
-ghost use Rattle.store_words.specs.Requests.{model_call, model_action};
 ghost use Rattle.store_words.specs.Performed.{Ready, Performed};
 ghost use Rattle.performing.specs.Entered.{entered};
 
@@ -20,21 +17,21 @@ use answers::Answer;
 use calls::{answer_of, apply, entry_of};
 use new_locks::hold;
 use rollback::roll_back;
-use store_words::{Action, Call, lock_of};
-use transactions::{Lock, abort, begin, close};
-use undo_logs::{Newest, note};
+use store_words::lock_of;
+use transactions::{abort, begin, close};
+use undo_logs::note;
+use vocabulary::{Action, Call, Entry, Lock};
 
 // The transaction holds the lock, and notes the entry, if there is one.
-fn enter(t: &mut [u64; 64], lock: Lock, entry: Newest)
-    requires { WordsFit t.old × (locks_full (model_lock lock) (transaction_of t.old).locks ≡ false)
-        × (log_full (model_newest entry) (transaction_of t.old).log ≡ false) }
+fn enter(t: &mut [u64; 64], lock: Lock, entry: Option<Entry>)
+    requires { WordsFit t.old × (locks_full lock (transaction_of t.old).locks ≡ false)
+        × (log_full entry (transaction_of t.old).log ≡ false) }
     ensures { Made t.new
-        (entered (model_lock lock) (model_newest entry) (transaction_of t.old)) }
+        (entered lock entry (transaction_of t.old)) }
 {
     hold(t, lock);
-    match entry {
-        Newest::Entry(new) => note(t, new),
-        Newest::Nothing => {}
+    if let Some(entry) = entry {
+        note(t, entry);
     }
 }
 
@@ -46,10 +43,10 @@ fn accept(
     e: usize,
     call: Call,
 ) -> Answer
-    requires { Ready script.old queue.old ts.old e (call_m true (model_call call)) × (1 ≤ e) × (e ≤ 8) }
+    requires { Ready script.old queue.old ts.old e (call_m true call) × (1 ≤ e) × (e ≤ 8) }
     ensures { Performed script.new queue.new ts.new result
         (performM (store_of script.old queue.old ts.old) e
-        (call_m true (model_call call))) }
+        (call_m true call)) }
 {
     let reply = apply(script, queue, call);
     let entry = entry_of(call, reply);
@@ -66,9 +63,9 @@ pub fn perform(
     e: usize,
     action: Action,
 ) -> Answer
-    requires { Ready script.old queue.old ts.old e (model_action action) × (1 ≤ e) × (e ≤ 8) }
+    requires { Ready script.old queue.old ts.old e action × (1 ≤ e) × (e ≤ 8) }
     ensures { Performed script.new queue.new ts.new result
-        (performM (store_of script.old queue.old ts.old) e (model_action action)) }
+        (performM (store_of script.old queue.old ts.old) e action) }
 {
     match action {
         Action::Begin => {

@@ -6,7 +6,7 @@ use lib.Count.{count_trailing_zeros, under}
 use lib.Pow.{split}
 use borrow.Author.Tests.{lt-leb}
 use Rattle.lines.proofs.Laws.{lt_or_ge}
-use Rattle.numbers.specs.declared.Number.TheVariants.{Value}
+use Rattle.std.specs.Prelude.{Some}
 use Rattle.numbers.specs.Number.{value_from}
 use Rattle.numbers.specs.Field.{leading}
 use Rattle.numbers.proofs.Laws.{value_more, value_end}
@@ -176,7 +176,7 @@ moved n y z h e d =
 pub record Told (t : List ℕ) (k z : ℕ) : Type 0 where
   pub count : length t ≡ small_bytes k z
   pub digits : Digits (length t) z
-  pub value : (v : ℕ) → value_from v t ≡ Value (folded (length t) v z)
+  pub value : (v : ℕ) → value_from v t ≡ Some (folded (length t) v z)
   pub first : 0 < length t → get_or t 0 0 ≡ 48 + z % 256
 
 pub no_lead : (b : ℕ) (l : List ℕ) → (48 ≤ b → b ≤ 57 → ⊥) → leading (b ∷ l) ≡ []

@@ -1,12 +1,15 @@
 -- Laws of one digit and of two, each read as the byte less 48 modulo 2 ^ 64. Assumes nothing.
-use Rattle.std.proofs.Common.{◌≡◌, ℕ, suc, ◌+◌, ◌-◌, ◌*◌, ◌%◌, ◌^◌, ◌<◌, ◌≤◌, List, [], ◌∷◌, length, get_or, take, drop, refl, ap, ◌∙◌, add-one, arith, length-drop, drop-cons}
-use Rattle.buffers.proofs.Laws.{has_room, no_room}
-use Rattle.numbers.specs.declared.Number.TheVariants.{Value}
+use Rattle.std.proofs.Common.{◌≡◌, ℕ, suc, ◌+◌, ◌-◌, ◌*◌, ◌%◌, ◌^◌, ◌<◌, ◌≤◌, List, [], ◌∷◌, length, get_or, take, drop, refl, ap, ◌∙◌, arith, length-drop, drop-cons}
+use lib.ListN.{drop_of_length-le}
+use lib.Seq.{take_all}
+use Rattle.std.proofs.Common.{sym, length-take-le}
+use Rattle.std.specs.Array.{IsFirstChunk}
+use Rattle.std.specs.Prelude.{Some, None}
 use Rattle.numbers.specs.Number.{value_from, number_of}
 use Rattle.numbers.specs.Field.{leading}
 use Rattle.numbers.proofs.Laws.{value_more, value_end, number_good, number_empty, number_zero}
 use Rattle.numbers.proofs.FieldLaws.{lead_more, lead_end}
-use Rattle.quick_numbers.specs.Short.{no_digits, short_of}
+use Rattle.quick_numbers.specs.Short.{short_of}
 use Rattle.quick_numbers.proofs.Digits.{no_lead}
 use Rattle.quick_numbers.proofs.Laws.{short_text, short_bad, short_good}
 
@@ -22,34 +25,34 @@ value d v l h =
     let b : 48 + d - 48 ≡ d = omega arith in
     value_more (48 + d) l v (omega arith) (omega arith) ∙ ap (λ (x : ℕ). value_from (v * 10 + x) l) b
 
-one_number : (d : ℕ) → d ≤ 9 → number_of ((48 + d) ∷ []) ≡ Value d
+one_number : (d : ℕ) → d ≤ 9 → number_of ((48 + d) ∷ []) ≡ Some d
 one_number d h =
     let e : 0 * 10 + d ≡ d = omega arith in
     number_good ((48 + d) ∷ []) (omega arith) (omega arith) (λ o b. o refl)
-    ∙ (value d 0 [] h ∙ (value_end [] (0 * 10 + d) refl ∙ ap Value e))
+    ∙ (value d 0 [] h ∙ (value_end [] (0 * 10 + d) refl ∙ ap Some e))
 
-two_number : (a b : ℕ) → a ≤ 9 → b ≤ 9 → (a ≡ 0 → ⊥) → number_of ((48 + a) ∷ (48 + b) ∷ []) ≡ Value (a * 10 + b)
+two_number : (a b : ℕ) → a ≤ 9 → b ≤ 9 → (a ≡ 0 → ⊥) → number_of ((48 + a) ∷ (48 + b) ∷ []) ≡ Some (a * 10 + b)
 two_number a b h g z =
     let e : (0 * 10 + a) * 10 + b ≡ a * 10 + b = omega arith in
     number_good ((48 + a) ∷ (48 + b) ∷ []) (omega arith) (omega arith)
     (λ o c. let f : 48 + a ≡ 48 = c in z (omega arith))
     ∙ (value a 0 ((48 + b) ∷ []) h
-    ∙ (value b (0 * 10 + a) [] g ∙ (value_end [] ((0 * 10 + a) * 10 + b) refl ∙ ap Value e)))
+    ∙ (value b (0 * 10 + a) [] g ∙ (value_end [] ((0 * 10 + a) * 10 + b) refl ∙ ap Some e)))
 
 -- ---- the text at a place
 pub no_text : (s : List ℕ) (at most window : ℕ) → 0 < window → length s < at + window
-    → no_digits ≡ short_of most window (drop at s)
+    → None ≡ short_of most window (drop at s)
 no_text s at most window w h = short_text most window (drop at s) (omega (arith, length-drop at s))
 
 pub no_first : (s : List ℕ) (at most w a : ℕ) → at < length s → (a + 48) % 2 ^ 64 ≡ get_or s at 0 → 9 < a → a < 2 ^ 64
-    → no_digits ≡ short_of most (suc w) (drop at s)
+    → None ≡ short_of most (suc w) (drop at s)
 no_first s at most w a h e n m =
     short_bad most (suc w) (drop at s) []
     (rw (drop-cons s at 0 h) (no_lead (get_or s at 0) (take w (drop (suc at) s)) (λ p q. omega arith)))
     (number_empty [] refl)
 
 pub one_digit : (s : List ℕ) (at a : ℕ) → at + 1 ≤ length s → (a + 48) % 2 ^ 64 ≡ get_or s at 0 → a ≤ 9
-    → record { value = a; digits = 1 } ≡ short_of 1 1 (drop at s)
+    → Some (record { value = a; digits = 1 }) ≡ short_of 1 1 (drop at s)
 one_digit s at a h e n =
     let b : get_or s at 0 ≡ 48 + a = omega arith in
     short_good 1 1 (drop at s) ((48 + a) ∷ []) a 1 (omega (arith, length-drop at s))
@@ -58,41 +61,52 @@ one_digit s at a h e n =
     (omega arith)
     (one_number a n)
 
-module _ (s : List ℕ) (at a b : ℕ) (room : at + 2 ≤ length s) (first : (a + 48) % 2 ^ 64 ≡ get_or s at 0)
-    (second : (b + 48) % 2 ^ 64 ≡ get_or s (at + 1) 0) (digit : a ≤ 9) where
-  front : leading (take 2 (drop at s)) ≡ (48 + a) ∷ leading (get_or s (at + 1) 0 ∷ [])
-  front =
-      let e : get_or s at 0 ≡ 48 + a = omega arith in
-      rw (drop-cons s at 0 (omega arith), drop-cons s (suc at) 0 (omega arith), e, add-one at)
-      (leads a (get_or s (suc at) 0 ∷ []) digit)
+-- what stands from a place on
+pub rest_is : (s : List ℕ) (at : ℕ) → take (length s - at) (drop at s) ≡ drop at s
+rest_is s at = take_all (length s - at) (drop at s) (omega (arith, length-drop at s))
 
-  both : b ≤ 9 → leading (take 2 (drop at s)) ≡ (48 + a) ∷ (48 + b) ∷ []
-  both h =
-      let e : get_or s (at + 1) 0 ≡ 48 + b = omega arith in
-      front
-      ∙ ap (λ (x : List ℕ). (48 + a) ∷ x)
-      (ap (λ (x : ℕ). leading (x ∷ [])) e ∙ leads_alone b h)
+-- two bytes at the front of a text, as the digits a and b
+module _ (l t : List ℕ) (chunk : IsFirstChunk l t 2) (a b : ℕ) (first : (a + 48) % 2 ^ 64 ≡ get_or t 0 0)
+    (second : (b + 48) % 2 ^ 64 ≡ get_or t 1 0) where
+  two : take 2 l ≡ get_or t 0 0 ∷ get_or t 1 0 ∷ []
+  two =
+      let n : length t ≡ 2 = ap length chunk.same ∙ length-take-le 2 l chunk.enough in
+      let none : drop 2 t ≡ [] = drop_of_length-le t {i = 2} (omega arith) in
+      sym chunk.same
+      ∙ (drop-cons t 0 0 (omega arith)
+      ∙ ap (λ (x : List ℕ). get_or t 0 0 ∷ x)
+      (drop-cons t 1 0 (omega arith) ∙ ap (λ (x : List ℕ). get_or t 1 0 ∷ x) none))
 
-  pub leading_zero : b ≤ 9 → a ≡ 0 → no_digits ≡ short_of 2 2 (drop at s)
-  leading_zero h z =
-      short_bad 2 2 (drop at s) ((48 + a) ∷ (48 + b) ∷ []) (both h)
-      (number_zero ((48 + a) ∷ (48 + b) ∷ []) (λ o. omega arith) (ap (λ (x : ℕ). 48 + x) z))
+  pub not_first : 9 < a → a < 2 ^ 64 → None ≡ short_of 2 2 l
+  not_first n m =
+      short_bad 2 2 l [] (rw two (no_lead (get_or t 0 0) (get_or t 1 0 ∷ []) (λ p q. omega arith))) (number_empty [] refl)
 
-  pub two_digits : b ≤ 9 → (a ≡ 0 → ⊥) → record { value = a * 10 + b; digits = 2 } ≡ short_of 2 2 (drop at s)
-  two_digits h z =
-      short_good 2 2 (drop at s) ((48 + a) ∷ (48 + b) ∷ []) (a * 10 + b) 2 (omega (arith, length-drop at s))
-      (both h)
-      refl
-      (omega arith)
-      (two_number a b digit h z)
+  module _ (digit : a ≤ 9) where
+    front : leading (take 2 l) ≡ (48 + a) ∷ leading (get_or t 1 0 ∷ [])
+    front = let e : get_or t 0 0 ≡ 48 + a = omega arith in rw (two, e) (leads a (get_or t 1 0 ∷ []) digit)
 
-  pub first_alone : 9 < b → b < 2 ^ 64 → record { value = a; digits = 1 } ≡ short_of 2 2 (drop at s)
-  first_alone h g =
-      short_good 2 2 (drop at s) ((48 + a) ∷ []) a 1 (omega (arith, length-drop at s))
-      (front ∙ ap (λ (x : List ℕ). (48 + a) ∷ x) (no_lead (get_or s (at + 1) 0) [] (λ p q. omega arith)))
-      refl
-      (omega arith)
-      (one_number a digit)
+    both : b ≤ 9 → leading (take 2 l) ≡ (48 + a) ∷ (48 + b) ∷ []
+    both h =
+        let e : get_or t 1 0 ≡ 48 + b = omega arith in
+        front ∙ ap (λ (x : List ℕ). (48 + a) ∷ x) (ap (λ (x : ℕ). leading (x ∷ [])) e ∙ leads_alone b h)
+
+    pub leading_zero : b ≤ 9 → a ≡ 0 → None ≡ short_of 2 2 l
+    leading_zero h z =
+        short_bad 2 2 l ((48 + a) ∷ (48 + b) ∷ []) (both h)
+        (number_zero ((48 + a) ∷ (48 + b) ∷ []) (λ o. omega arith) (ap (λ (x : ℕ). 48 + x) z))
+
+    pub two_digits : b ≤ 9 → (a ≡ 0 → ⊥) → Some (record { value = a * 10 + b; digits = 2 }) ≡ short_of 2 2 l
+    two_digits h z =
+        short_good 2 2 l ((48 + a) ∷ (48 + b) ∷ []) (a * 10 + b) 2 chunk.enough (both h) refl (omega arith)
+        (two_number a b digit h z)
+
+    pub first_alone : 9 < b → b < 2 ^ 64 → Some (record { value = a; digits = 1 }) ≡ short_of 2 2 l
+    first_alone h g =
+        short_good 2 2 l ((48 + a) ∷ []) a 1 chunk.enough
+        (front ∙ ap (λ (x : List ℕ). (48 + a) ∷ x) (no_lead (get_or t 1 0) [] (λ p q. omega arith)))
+        refl
+        (omega arith)
+        (one_number a digit)
 
 -- what the functions of one digit and of two are proved by
-pub ruleset short_reads = (has_room, no_room, no_text, no_first, leading_zero, one_digit)
+pub ruleset short_reads = (no_text, no_first, one_digit)

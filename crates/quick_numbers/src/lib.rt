@@ -1,94 +1,69 @@
 // The short numbers of a step line, read where they stand: of one digit, of one or two, of at most seven.
 //
-// An answer has no digits where the text ends too soon, where no digit stands there, where a number has a leading zero,
-// and where seven digits have another behind them. No public function has a `requires`.
+// There is none where the text ends too soon, where no digit stands there, where a number has a leading zero, and where
+// seven digits have another behind them. No public function has a `requires`.
 #![tactic(auto)]
 
-ghost use Rattle.std.specs.Prelude.{◌≡◌, ◌+◌, ◌-◌, ◌*◌, ◌/◌, ◌%◌, ◌^◌, ◌<◌, ◌≤◌, length, drop, slice_index};
+ghost use Rattle.std.specs.Prelude.{◌≡◌, ◌+◌, ◌-◌, ◌*◌, ◌/◌, ◌%◌, ◌^◌, ◌≤◌, drop};
 ghost use Rattle.std.specs.Int.Count.{count_trailing_zeros};
 ghost use Rattle.quick_numbers.specs.Bytes.{Digits, small_bytes, folded};
 ghost use Rattle.quick_numbers.specs.Short.{short_of};
 
-use buffers::fits;
 use eight_bytes::eight_bytes;
 
-// Eight bytes 48, the digit 0.
-const EACH_48: u64 = 3472328296227680304;
+// In each of the eight bytes 48, the digit 0.
+const EACH_48: u64 = 0x3030_3030_3030_3030;
 
-// Eight bytes 118: a byte at most 9 stays below 128 with it, any other reaches 128.
-const EACH_118: u64 = 8536140394893047414;
+// In each of the eight bytes 118: a byte at most 9 stays below 128 with it, any other reaches 128.
+const EACH_118: u64 = 0x7676_7676_7676_7676;
 
-// Eight bytes 128.
-const TOP_BITS: u64 = 9259542123273814144;
+// In each of the eight bytes 128.
+const TOP_BITS: u64 = 0x8080_8080_8080_8080;
 
 // The first, third, fifth and seventh byte.
-const EVERY_SECOND_BYTE: u64 = 71777214294589695;
+const EVERY_SECOND_BYTE: u64 = 0x00FF_00FF_00FF_00FF;
 
 // The first two bytes, and the fifth and sixth.
-const EVERY_SECOND_TWO: u64 = 281470681808895;
+const EVERY_SECOND_TWO: u64 = 0x0000_FFFF_0000_FFFF;
 
-// A number, and how many digits it has; none where the digits are no number.
-#[derive(Drop)]
+// A number, and how many digits it has.
+#[derive(Clone, Copy, Debug, PartialEq, Eq)]
 pub struct Short {
     pub value: u64,
     pub digits: usize,
 }
 
-fn wide(x: u8) -> u64
-    ensures { result ≡ x }
+// The digit that a byte is; above 9 where it is none.
+fn digit_of(byte: u8) -> u64
+    ensures { (result + 48) % 2 ^ 64 ≡ byte }
 {
-    x as u64
-}
-
-// The digit at a place; above 9 where the byte is none.
-fn digit_at(text: &[u8], i: usize) -> u64
-    requires { i < length text.now }
-    ensures { (result + 48) % 2 ^ 64 ≡ slice_index text.now i }
-{
-    std::num::wrapping_sub_u64(wide(text[i]), 48)
+    u64::from(byte).wrapping_sub(48)
 }
 
 #[tactic(auto, using(crate::proofs::Two::short_reads))]
-pub fn one_digit(text: &[u8], at: usize) -> Short
+pub fn one_digit(text: &[u8], at: usize) -> Option<Short>
     ensures { result ≡ short_of 1 1 (drop at text.now) }
 {
-    if !fits(text.len(), at, 1) {
-        return Short {
-            value: 0,
-            digits: 0,
-        };
-    }
-    let digit = digit_at(text, at);
+    let digit = digit_of(*text.get(at)?);
     if 9 < digit {
-        return Short {
-            value: 0,
-            digits: 0,
-        };
+        return None;
     }
-    Short {
+    Some(Short {
         value: digit,
         digits: 1,
-    }
+    })
 }
 
 // A number of one digit or two. Which of the two cannot be guessed, so nothing branches on it.
 #[tactic(auto, using(crate::proofs::Two::short_reads))]
-pub fn two_digits(text: &[u8], at: usize) -> Short
+pub fn two_digits(text: &[u8], at: usize) -> Option<Short>
     ensures { result ≡ short_of 2 2 (drop at text.now) }
 {
-    if !fits(text.len(), at, 2) {
-        return Short {
-            value: 0,
-            digits: 0,
-        };
-    }
-    let first = digit_at(text, at);
-    let second = digit_at(text, at + 1);
+    let bytes = text.get(at..)?.first_chunk::<2>()?;
+    let first = digit_of(bytes[0]);
+    let second = digit_of(bytes[1]);
     if 9 < first {
-        return Short {
-            value: 0,
-            digits: 0,
-        };
+        return None;
     }
     let mut value = first;
     let mut digits = 1;
@@ -97,27 +72,22 @@ pub fn two_digits(text: &[u8], at: usize) -> Short
         digits = 2;
     }
     if digits == 2 && first == 0 {
-        return Short {
-            value: 0,
-            digits: 0,
-        };
+        return None;
     }
-    Short {
-        value: value,
-        digits: digits,
-    }
+    Some(Short { value, digits })
 }
 
 // Zero where each of the eight bytes of `z` is at most 9; else its lowest bit is the top bit of the first larger byte.
 fn larger_bytes(z: u64) -> u64
     ensures { count_trailing_zeros 64 result / 8 ≡ small_bytes 8 z }
 {
-    (std::num::wrapping_add_u64(z, EACH_118) | z) & TOP_BITS
+    (z.wrapping_add(EACH_118) | z) & TOP_BITS
 }
 
 // The first `n` bytes of `z` with zeros in front, eight bytes again.
 fn moved_up(z: u64, n: usize) -> u64
-    requires { (1 ≤ n) × (n ≤ 7) }
+    requires some { 1 ≤ n }
+    requires few { n ≤ 7 }
     ensures { result ≡ z * 2 ^ (64 - 8 * n) % 2 ^ 64 }
 {
     z << (64 - 8 * n)
@@ -135,27 +105,21 @@ fn number_of(y: u64) -> u64
 
 // A number of at most seven digits, in eight bytes. How many there are cannot be guessed, so nothing branches on it:
 // the first byte that is no digit tells the count, and with zeros in front there are always eight digits to fold.
-pub fn seven_digits(text: &[u8], at: usize) -> Short
+pub fn seven_digits(text: &[u8], at: usize) -> Option<Short>
     ensures { result ≡ short_of 7 8 (drop at text.now) }
 {
-    let z = std::num::wrapping_sub_u64(eight_bytes(text, at), EACH_48);
-    let n = (u64::trailing_zeros(larger_bytes(z)) / 8) as usize;
+    let z = eight_bytes(text, at)?.wrapping_sub(EACH_48);
+    let n = (larger_bytes(z).trailing_zeros() / 8) as usize;
     if n < 1 || 7 < n {
-        return Short {
-            value: 0,
-            digits: 0,
-        };
+        return None;
     }
     let y = moved_up(z, n);
     // A first digit 0 allows one digit, any other allows seven: one comparison, as the first digit cannot be guessed.
     if 1 + z % 256 * 9 < n as u64 {
-        return Short {
-            value: 0,
-            digits: 0,
-        };
+        return None;
     }
-    Short {
+    Some(Short {
         value: number_of(y),
         digits: n,
-    }
+    })
 }

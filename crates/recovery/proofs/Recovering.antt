@@ -3,7 +3,7 @@
 use Prim.Native.Nat.{ℕ, zero, suc, ◌+◌, ◌-◌, ◌≤◌, ◌<◌}
 use mathlib.Core.Path.{◌≡◌, refl, ap, sym, ◌∙◌}
 use mathlib.Core.List.{List, [], ◌∷◌}
-use mathlib.Core.Option.{Option, none, some}
+use Rattle.std.specs.Prelude.{Option, None, Some}
 use native.Mathlib.Nat.{not-suc-le-zero}
 use native.Mathlib.Numerals.{add-one}
 use native.Mathlib.Omega.{arith}
@@ -46,8 +46,8 @@ idle : (d : Store) (e : ℕ) (a : Action) → ((transaction d e).standing ≡ as
 idle d e a h = go (refusal_of d (request e a)) refl
   where
     go : (o : Option Refusal) → refusal_of d (request e a) ≡ o → (step_on d (request e a)).store ≡ d
-    go none p = absurd (h (accepted_standing d e a p))
-    go (some r) p = ap (λ (o : Out). o.store) (step_refused d (request e a) r p)
+    go None p = absurd (h (accepted_standing d e a p))
+    go (Some r) p = ap (λ (o : Out). o.store) (step_refused d (request e a) r p)
 
 module _ (s q : List ℕ) (ts : List (List ℕ)) (e : ℕ) (f : StoreFits s q ts) (h : 1 ≤ e) (g : e ≤ 8) where
   stands : (z : Standing) → (transaction_of (get_or ts (e - 1) [])).standing ≡ z

@@ -12,8 +12,9 @@ ghost use Rattle.store_words.specs.Words.{store_of, StoreFits};
 ghost use Rattle.store_words.specs.Performed.{Shows};
 
 use rollback::roll_back;
-use transactions::{Standing, abort, standing_of};
+use transactions::{abort, standing_of};
 use undo_logs::entry_count;
+use vocabulary::Standing;
 
 // An open transaction is aborting from now on; any other refuses, and nothing changes.
 fn abort_open(script: &mut [u64; 257], queue: &mut [u64; 65], ts: &mut [[u64; 64]; 8], e: usize)

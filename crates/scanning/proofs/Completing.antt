@@ -2,7 +2,7 @@
 -- stands from there on are the step's line; and the step at the start is then the one that scanning finds.
 -- Assumes nothing.
 use Prim.Native.Nat.{ℕ, suc, ◌+◌, ◌-◌, ◌≤◌, ◌<◌}
-use mathlib.Core.Path.{◌≡◌, refl, sym, ap, ◌∙◌}
+use mathlib.Core.Path.{◌≡◌, refl, sym, ap, subst, ◌∙◌}
 use mathlib.Core.List.{List, [], ◌∷◌, ◌++◌, append_assoc, append-nil}
 use native.Mathlib.Omega.{arith}
 use lib.ListN.{length, get_or, take, drop, length-drop, take-append-drop}
@@ -15,7 +15,8 @@ use Rattle.digits.proofs.Laws.{none_digits}
 use Rattle.records.specs.Record.{field_text}
 use Rattle.cues.specs.declared.CueNumbers.{CueNumbers}
 use Rattle.steps.specs.declared.reading.Step.{Step}
-use Rattle.steps.specs.declared.reading.Step.TheVariants.{WithNumber, WithCue, Malformed}
+use Rattle.steps.specs.declared.reading.Step.TheVariants.{WithNumber, WithCue}
+use Rattle.std.specs.Prelude.{Option, Some, None, IsSomeAnd}
 use Rattle.step_words.specs.declared.NumberWord.{NumberWord}
 use Rattle.step_words.specs.declared.NumberWord.TheVariants.{Begin, Min, Take, Commit, Undo, Back}
 use Rattle.step_words.specs.declared.CueWord.{CueWord}
@@ -24,14 +25,12 @@ use Rattle.step_words.specs.Word.{number_word, cue_word}
 use Rattle.steps.specs.Step.{step_of}
 use Rattle.steps.specs.StepText.{call_text, step_text, NineDigits, NineDigitCall}
 use Rattle.steps.proofs.Theorems.{step_write_then_read}
-use Rattle.quick_words.specs.QuickWord.{code_text, cue_code, number_code}
-use Rattle.quick_words.proofs.Laws.{cue_text_lem, number_text}
+use Rattle.step_words.specs.declared.Word.TheVariants.{WithNumber as of_number, WithCue as of_cue}
+use Rattle.quick_words.specs.Row.{word_line}
 use Rattle.quick_numbers.specs.declared.Short.{Short}
-use Rattle.quick_numbers.specs.Short.{ShortFits}
+use Rattle.quick_numbers.specs.Short.{ShortStands}
 use Rattle.quick_numbers.proofs.Laws.{digits_stand, field_stands}
 use Rattle.scanning.specs.declared.Scanned.{Scanned}
-use Rattle.scanning.specs.declared.quick.Quick.{Quick}
-use Rattle.scanning.specs.declared.quick.Quick.TheVariants.{Found, Unsure}
 use Rattle.scanning.specs.Scan.{Scans}
 use Rattle.scanning.specs.Quick.{LineOf, Completes, RestFits, QuickFits}
 
@@ -74,11 +73,10 @@ none_line (WithNumber w e) =
     none_append 10 (number_word w) _ (none_number_word w) (none_behind_comma (digits_of e) (none_number e))
 none_line (WithCue w e c) =
     none_append 10 (cue_word w) _ (none_cue_word w) (none_behind_comma (call_text e c) (none_call e c))
-none_line Malformed = refl
 
 -- ---- at the LF, at a place before, at the start
 pub ended : (before s : List ℕ) (x : Step) (end : ℕ) → LineOf before x → end < length s → get_or s end 0 ≡ 10
-    → Completes before s end (record { step = x; end = end })
+    → Completes before s end (record { step = Some x; end = end })
 ended before s x end l h e =
     let z : end - end ≡ 0 = omega arith in
     record { line = rw (z, append-nil before) l; from = omega arith; within = h; lf = e }
@@ -92,25 +90,37 @@ earlier before t s at q r e h c =
     let p : take (r.end - at) (drop at s) ≡ t ++ take (r.end - q) (drop q s) =
     rw (k, take-add (length t) (r.end - q) (drop at s), d, h) refl in
     record {
-      line = record { text = rw (p, ← append_assoc) c.line.text; nine = c.line.nine };
+      line =
+          subst (λ (l : List ℕ). IsSomeAnd r.step (λ x. LineOf l x))
+          (append_assoc before t (take (r.end - q) (drop q s)) ∙ ap (λ (l : List ℕ). before ++ l) (sym p))
+          c.line;
       from = omega arith;
       within = c.within;
       lf = c.lf;
     }
 
 -- a number and a byte before, and a number alone
-module _ (before s : List ℕ) (at most : ℕ) (v : Short) (f : ShortFits s at most v) (some : v.digits ≡ 0 → ⊥) where
+module _ (before s : List ℕ) (at most : ℕ) (v : Short) (f : ShortStands s at most v) where
   pub field_earlier : (b : ℕ) (r : Scanned) → at + v.digits < length s → get_or s (at + v.digits) 0 ≡ b
       → Completes (before ++ field_text v.value b) s (at + v.digits + 1) r → Completes before s at r
   field_earlier b r l e c =
-      let d = field_stands s at most v f some b l e in
+      let d = field_stands s at most v f b l e in
       earlier before (field_text v.value b) s at (at + v.digits + 1) r (omega (arith, d.1)) d.0 c
 
   pub number_earlier : (r : Scanned) → Completes (before ++ digits_of v.value) s (at + v.digits) r
       → Completes before s at r
   number_earlier r c =
-      let d = digits_stand s at most v f some in
+      let d = digits_stand s at most v f in
       earlier before (digits_of v.value) s at (at + v.digits) r (omega (arith, d.1)) d.0 c
+
+-- a step's line is read as that step
+line_read : (t : List ℕ) (step : Option Step) → IsSomeAnd step (λ x. LineOf t x)
+    → (step ≡ step_of t) × (up_to 10 t ≡ length t)
+line_read t None l = elim l [ ]
+line_read t (Some x) l = (
+  sym (step_write_then_read x l.nine) ∙ ap (λ (u : List ℕ). step_of u) (sym l.text),
+  rw l.text (none_line x),
+)
 
 pub scans : (s : List ℕ) (at : ℕ) (r : Scanned) → Completes [] s at r → Scans s at r
 scans s at r c =
@@ -124,52 +134,47 @@ scans s at r c =
     drop-drop k at s ∙ (ap (λ (i : ℕ). drop i s) q ∙ (drop-cons s r.end 0 within ∙ rw c.lf refl)) in
     let all : drop at s ≡ t ++ 10 ∷ drop (suc r.end) s =
     sym (take-append-drop k (drop at s)) ∙ ap (λ (l : List ℕ). t ++ l) rest in
-    let u : up_to 10 t ≡ length t = rw c.line.text (none_line r.step) in
-    let up : up_to 10 (drop at s) ≡ length t = ap (up_to 10) all ∙ up_append 10 t _ u in
-    record {
-      end = omega (arith, up);
-      step = sym (step_write_then_read r.step c.line.nine) ∙ ap (λ (l : List ℕ). step_of l) (sym c.line.text);
-      within = omega arith;
-    }
+    let read = line_read t r.step c.line in
+    let up : up_to 10 (drop at s) ≡ length t = ap (up_to 10) all ∙ up_append 10 t _ read.1 in
+    record { end = omega (arith, up); step = read.0; within = omega arith }
 
 -- ---- the lines of steps, as they are read
-pub number_line : (code e : ℕ) (w : NumberWord) → 4 ≤ code → w ≡ number_code code → NineDigits e
-    → LineOf (code_text code ++ digits_of e) (WithNumber w e)
-number_line code e w h q n =
-    record { text = rw (number_text code h, q) (append_assoc (number_word (number_code code)) _ _); nine = n }
+pub number_line : (w : NumberWord) (e : ℕ) → NineDigits e
+    → LineOf (word_line (of_number w) ++ digits_of e) (WithNumber w e)
+number_line w e n = record { text = append_assoc (number_word w) (44 ∷ []) (digits_of e); nine = n }
 
 regroup : (a b c d e : List ℕ) → (((a ++ b) ++ c) ++ d) ++ e ≡ a ++ (b ++ (c ++ (d ++ e)))
 regroup a b c d e = simp append_assoc
 
-pub call_line : (code e : ℕ) (c : CueNumbers) (w : CueWord) → code < 4 → w ≡ cue_code code → NineDigitCall e c
-    → LineOf ((((code_text code ++ field_text e 44) ++ field_text c.time 44) ++ field_text c.«module» 44)
+pub call_line : (w : CueWord) (e : ℕ) (c : CueNumbers) → NineDigitCall e c
+    → LineOf ((((word_line (of_cue w) ++ field_text e 44) ++ field_text c.time 44) ++ field_text c.«module» 44)
     ++ digits_of c.pin)
     (WithCue w e c)
 unfolding call_text
-call_line code e c w h q n = record {
-  text = regroup (code_text code) _ _ _ _ ∙ rw (cue_text_lem code h, q) (append_assoc (cue_word (cue_code code)) _ _);
+call_line w e c n = record {
+  text = regroup (word_line (of_cue w)) _ _ _ _ ∙ append_assoc (cue_word w) (44 ∷ []) _;
   nine = n;
 }
 
 -- ---- what a look answers
-pub rest_earlier : (before t s : List ℕ) (at q : ℕ) (r : Quick) → q ≡ at + length t → Stands s at t
+rest_earlier : (before t s : List ℕ) (at q : ℕ) (r : Option Scanned) → q ≡ at + length t → Stands s at t
     → RestFits (before ++ t) s q r → RestFits before s at r
-rest_earlier before t s at q (Found r) e h c = earlier before t s at q r e h c
-rest_earlier before t s at q Unsure e h c = tt
+rest_earlier before t s at q (Some r) e h c = earlier before t s at q r e h c
+rest_earlier before t s at q None e h c = tt
 
 -- a field of one digit before
-pub rest_field : (before s : List ℕ) (at b : ℕ) (v : Short) (r : Quick) → ShortFits s at 1 v → (v.digits ≡ 0 → ⊥)
+pub rest_field : (before s : List ℕ) (at b : ℕ) (v : Short) (r : Option Scanned) → ShortStands s at 1 v
     → at + 1 < length s → get_or s (at + 1) 0 ≡ b → RestFits (before ++ field_text v.value b) s (at + 2) r
     → RestFits before s at r
-rest_field before s at b v r f some l e c =
-    let one : v.digits ≡ 1 = omega (arith, f.few) in
-    let d = field_stands s at 1 v f some b (rw one l) (rw one e) in
+rest_field before s at b v r f l e c =
+    let one : v.digits ≡ 1 = omega (arith, f.some, f.few) in
+    let d = field_stands s at 1 v f b (rw one l) (rw one e) in
     rest_earlier before (field_text v.value b) s at (at + 2) r (omega (arith, d.1)) d.0 c
 
-pub rest_scans : (t s : List ℕ) (at q : ℕ) (r : Quick) → q ≡ at + length t → Stands s at t → RestFits t s q r
+pub rest_scans : (t s : List ℕ) (at q : ℕ) (r : Option Scanned) → q ≡ at + length t → Stands s at t → RestFits t s q r
     → QuickFits s at r
-rest_scans t s at q (Found r) e h c = scans s at r (earlier [] t s at q r e h c)
-rest_scans t s at q Unsure e h c = tt
+rest_scans t s at q (Some r) e h c = scans s at r (earlier [] t s at q r e h c)
+rest_scans t s at q None e h c = tt
 
-pub Found-scans : (s : List ℕ) (at : ℕ) (r : Quick) (x : Scanned) → QuickFits s at r → r ≡ Found x → Scans s at x
-Found-scans s at r x f e = rw e at f
+pub found_scans : (s : List ℕ) (at : ℕ) (r : Option Scanned) (x : Scanned) → QuickFits s at r → r ≡ Some x → Scans s at x
+found_scans s at r x f e = rw e at f

@@ -6,16 +6,16 @@ use native.Mathlib.Omega.{arith}
 use lib.ListN.{length}
 use Rattle.lines.specs.Lines.{up_to}
 use Rattle.lines.proofs.Laws.{up_end}
-use Rattle.steps.specs.declared.reading.Step.TheVariants.{Malformed}
+use Rattle.std.specs.Prelude.{None}
 use Rattle.steps.specs.Step.{step_of}
 use Rattle.steps.proofs.Steps.{no_fields}
 use Rattle.scanning.specs.Scan.{Scans}
 
-nothing_read : Malformed ≡ step_of []
+nothing_read : None ≡ step_of []
 unfolding up_to
 nothing_read = no_fields [] refl
 
-pub past_the_end : (s : List ℕ) (at : ℕ) → length s ≤ at → Scans s at (record { step = Malformed; end = at })
+pub past_the_end : (s : List ℕ) (at : ℕ) → length s ≤ at → Scans s at (record { step = None; end = at })
 past_the_end s at h =
     let z : at - at ≡ 0 = omega arith in
     record {

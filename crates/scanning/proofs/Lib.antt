@@ -2,4 +2,3 @@
 pub mod Completing
 pub mod Ends
 pub mod Parts
-pub mod Tests

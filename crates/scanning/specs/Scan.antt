@@ -1,5 +1,5 @@
 -- The step at a place of a text: that of the line from the place up to the next LF (10), or to the end of the text.
--- At or past the end that line is empty, and malformed. Assumes nothing.
+-- At or past the end that line is empty, and no step. Assumes nothing.
 use Rattle.std.specs.Prelude.{ℕ, ◌+◌, ◌-◌, ◌≤◌, max, ◌≡◌, List, length, take, drop}
 use Rattle.lines.specs.Lines.{up_to}
 use Rattle.steps.specs.Step.{step_of}

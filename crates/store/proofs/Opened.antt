@@ -7,8 +7,9 @@ use native.Mathlib.Numerals.{add-one}
 use native.Mathlib.Omega.{arith}
 use lib.ListN.{length, take, get_or, set, length-set, replicate}
 use lib.Seq.{get_or-set_same, take-set-le, take-take}
-use Rattle.scripts.specs.Script.{keys_in, script_of}
-use Rattle.scripts.specs.declared.reading.Outcome.{Outcome}
+use Rattle.scripts.specs.Script.{keys_in, script_of, script_or_empty}
+use Rattle.std.specs.Prelude.{Result}
+use Rattle.refusals.specs.declared.RefusedText.{RefusedText}
 use Rattle.boosting.specs.Store.{closed_transaction, started, opened}
 use Rattle.boosting.proofs.Theorems.{opened_is_sound}
 use Rattle.transactions.specs.View.{Made, transaction_of}
@@ -72,24 +73,23 @@ script_put w keys n m l c h e =
     )
 
 -- ---- the whole store
-pub opens : (s q : List ℕ) (ts : List (List ℕ)) (text keys : List ℕ) (o : Outcome) → (o, keys) ≡ script_of text
-    → script_in s ≡ keys → ScriptFits s → length q ≡ 65 → map transaction_of ts ≡ replicate 8 closed_transaction
-    → TransactionsFit ts → (o ≡ (script_of text).0) × Shows s (set q 64 0) ts (opened (script_of text).1)
+pub opens : (s q : List ℕ) (ts : List (List ℕ)) (text : List ℕ) (read : Result (List ℕ) RefusedText)
+    → read ≡ script_of text → script_in s ≡ script_or_empty read → ScriptFits s → length q ≡ 65
+    → map transaction_of ts ≡ replicate 8 closed_transaction → TransactionsFit ts
+    → Shows s (set q 64 0) ts (opened (script_or_empty (script_of text)))
 unfolding opened started
-opens s q ts text keys o e a f l c t =
+opens s q ts text read e a f l c t =
     let n : get_or (set q 64 0) 64 0 ≡ 0 = get_or-set_same q 64 0 0 (omega (arith, l)) in
-    let u : script_in s ≡ (script_of text).1 = a ∙ ap (λ (p : Outcome × List ℕ). p.1) e in
+    let u : script_in s ≡ script_or_empty (script_of text) = a ∙ ap script_or_empty e in
     let v : queue_in (set q 64 0) ≡ [] = rw n refl in
-    let z : store_of s (set q 64 0) ts ≡ opened (script_of text).1 =
-    (λ i. record { state = record { script = u i; queue = v i }; transactions = c i }) in (
-      ap (λ (p : Outcome × List ℕ). p.0) e,
-      record {
-        is = z;
-        fits = record {
-          script = f;
-          queue = record { long = length-set q 64 0 ∙ l; count_le = rw n (omega arith) };
-          transactions = t;
-          sound = rw z (opened_is_sound text);
-        };
-      },
-    )
+    let z : store_of s (set q 64 0) ts ≡ opened (script_or_empty (script_of text)) =
+    (λ i. record { state = record { script = u i; queue = v i }; transactions = c i }) in
+    record {
+      is = z;
+      fits = record {
+        script = f;
+        queue = record { long = length-set q 64 0 ∙ l; count_le = rw n (omega arith) };
+        transactions = t;
+        sound = rw z (opened_is_sound text);
+      };
+    }

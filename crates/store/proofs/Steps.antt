@@ -3,14 +3,14 @@ use Prim.Native.Nat.{ℕ, ◌≤◌}
 use mathlib.Core.Path.{◌≡◌, refl, ap, sym, ◌∙◌}
 use mathlib.Core.Bool.{false}
 use mathlib.Core.List.{List}
-use mathlib.Core.Option.{none, some}
+use Rattle.std.specs.Prelude.{Option, None, Some}
 use native.Mathlib.Omega.{arith}
 use Rattle.refusals.specs.declared.Refusal.{Refusal}
 use Rattle.refusals.specs.declared.Refusal.TheVariants.{Malformed as MalformedLine}
 use Rattle.steps.specs.declared.reading.Step.{Step}
 use Rattle.answers.specs.declared.Answer.{Answer}
 use Rattle.answers.specs.declared.Answer.TheVariants.{Refused}
-use Rattle.boosting.specs.Rows.{Action, Request, malformed, request, request_of, refusal_of}
+use Rattle.boosting.specs.Rows.{Action, Request, request, request_of, refusal_of}
 use Rattle.boosting.specs.Step.{Out, perform, step_on}
 use Rattle.boosting.specs.Replay.{is_refused}
 use Rattle.boosting.proofs.Accepted.{accepted_valid, malformed_refused, step_refused, step_accepted}
@@ -19,15 +19,16 @@ use Rattle.boosting.proofs.Theorems.{accepted_exactly}
 use Rattle.store_words.specs.Words.{store_of, StoreFits}
 use Rattle.store_words.specs.Performed.{Ready, Performed}
 use Rattle.store.specs.Stepped.{Asks, Stepped}
+use Rattle.store.proofs.Requests.{asks}
 
-module _ (s q : List ℕ) (ts : List (List ℕ)) (x : Step) (f : StoreFits s q ts) where
+module _ (s q : List ℕ) (ts : List (List ℕ)) (x : Option Step) (f : StoreFits s q ts) where
   abbrev outcome : Out
   outcome = step_on (store_of s q ts) (request_of x)
 
-  is_asked : (m : Request) → Asks m x → outcome ≡ step_on (store_of s q ts) m
+  is_asked : (m : Option Request) → Asks m x → outcome ≡ step_on (store_of s q ts) m
   is_asked m a = sym (a.alike (store_of s q ts))
 
-  pub refused : (m : Request) → Asks m x → (r : Refusal) → refusal_of (store_of s q ts) m ≡ some r
+  pub refused : (m : Option Request) → Asks m x → (r : Refusal) → refusal_of (store_of s q ts) m ≡ Some r
       → Stepped s q ts outcome s q ts (Refused r)
   refused m a r p =
       let z = is_asked m a ∙ step_refused (store_of s q ts) m r p in
@@ -38,12 +39,13 @@ module _ (s q : List ℕ) (ts : List (List ℕ)) (x : Step) (f : StoreFits s q t
         untouched = λ t. (refl, refl, refl);
       }
 
-  pub malformed_line : Asks malformed x → Stepped s q ts outcome s q ts (Refused MalformedLine)
-  malformed_line a = refused malformed a MalformedLine (malformed_refused (store_of s q ts))
+  pub malformed_line : x ≡ None → Stepped s q ts outcome s q ts (Refused MalformedLine)
+  malformed_line e =
+      refused None (rw e (asks None)) MalformedLine (malformed_refused (store_of s q ts))
 
   -- a request that meets no row
   module _ (e : ℕ) (a : Action) (k : Asks (request e a) x)
-      (p : refusal_of (store_of s q ts) (request e a) ≡ none) where
+      (p : refusal_of (store_of s q ts) (request e a) ≡ None) where
     pub ready : Ready s q ts e a
     ready = record { fits = f; accepted = p; key = k.key }
 

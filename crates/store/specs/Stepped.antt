@@ -1,5 +1,5 @@
 -- One step on words: what the request of a step line has to be, and what the step leaves. Assumes nothing.
-use Rattle.std.specs.Prelude.{ℕ, ◌≡◌, true, List}
+use Rattle.std.specs.Prelude.{ℕ, ◌≡◌, true, List, Option}
 use Rattle.steps.specs.declared.reading.Step.{Step}
 use Rattle.answers.specs.declared.Answer.{Answer}
 use Rattle.boosting.specs.Store.{Store}
@@ -10,7 +10,7 @@ use Rattle.boosting.specs.Sound.{RequestKey}
 use Rattle.store_words.specs.Words.{store_of, StoreFits}
 
 -- the request asks what the step does: with either, every store does and answers the same
-pub record Asks (q : Request) (s : Step) : Type 0 where
+pub record Asks (q : Option Request) (s : Option Step) : Type 0 where
   pub alike : (d : Store) → step_on d q ≡ step_on d (request_of s)
   pub key : RequestKey q
 

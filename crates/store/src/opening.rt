@@ -1,14 +1,16 @@
 // The store of a script text: its cues, an empty queue, and every transaction closed.
 ghost use Rattle.std.specs.Prelude.{◌≡◌, map, length, replicate};
-ghost use Rattle.scripts.specs.Script.{keys_of, script_of};
+ghost use Rattle.scripts.specs.Script.{keys_of, script_of, script_or_empty};
 ghost use Rattle.boosting.specs.Store.{closed_transaction, opened};
 ghost use Rattle.transactions.specs.View.{transaction_of};
 ghost use Rattle.store_words.specs.Words.{script_in, ScriptFits, TransactionsFit};
 ghost use Rattle.store_words.specs.Performed.{Shows};
+ghost use Rattle.store.specs.Opening.{accepted};
 ghost use Rattle.store.specs.Sized.{AllLong, Sized};
 
+use refusals::RefusedText;
 use script_texts::key_count;
-use scripts::{Outcome, Script, read_script};
+use scripts::{Script, empty_script, read_script};
 use store_words::{QUEUE_COUNT, SCRIPT_COUNT};
 use tables::copy_keys;
 use transactions::close;
@@ -30,10 +32,8 @@ fn close_all(ts: &mut [[u64; 64]; 8])
     ensures { (map transaction_of ts.new ≡ replicate 8 closed_transaction)
         × TransactionsFit ts.new }
 {
-    let mut i = 0;
-    while i < 8 {
+    for i in 0..8 {
         close(&mut ts[i]);
-        i += 1;
     }
 }
 
@@ -44,15 +44,21 @@ pub fn open(
     queue: &mut [u64; 65],
     ts: &mut [[u64; 64]; 8],
     text: &[u8],
-) -> Outcome
+) -> Result<(), RefusedText>
     requires { Sized script.old queue.old ts.old }
-    ensures { (result ≡ (script_of text.now).0)
-        × Shows script.new queue.new ts.new (opened (script_of text.now).1) }
+    ensures answers { result ≡ accepted (script_of text.now) }
+    ensures opens { Shows script.new queue.new ts.new (opened (script_or_empty (script_of text.now))) }
 {
-    let reading = read_script(text);
-    let read = reading.script;
-    put_script(script, read);
     queue[QUEUE_COUNT] = 0;
     close_all(ts);
-    reading.outcome
+    match read_script(text) {
+        Ok(read) => {
+            put_script(script, read);
+            Ok(())
+        }
+        Err(refused) => {
+            put_script(script, empty_script());
+            Err(refused)
+        }
+    }
 }

@@ -1,21 +1,20 @@
 // One step, by a raw line or one that has been read: turned into a request, tried by the rows of the table, and
 // performed.
-ghost use Rattle.std.specs.Prelude.{◌≡◌, true};
+ghost use Rattle.std.specs.Prelude.{◌≡◌, true, Some};
 ghost use Rattle.cues.specs.Cue.{in_range, key_of};
 ghost use Rattle.boosting.specs.Rows.{number_action, cue_call, request_of};
 ghost use Rattle.boosting.specs.Step.{step_on, step_line};
 ghost use Rattle.store_words.specs.Words.{store_of, StoreFits};
-ghost use Rattle.store_words.specs.Requests.{model_call, model_action, model_request};
 ghost use Rattle.store.specs.Stepped.{Asks, Stepped};
 
-use admission::{Admission, refusal_of};
+use admission::admit;
 use answers::Answer;
 use cues::{Cue, CueNumbers};
 use performing::perform;
 use refusals::Refusal;
 use step_words::{CueWord, NumberWord};
 use steps::{Step, read_step};
-use store_words::{Action, Call, Request};
+use vocabulary::{Action, Call, Request};
 
 // The key of a cue's numbers where they are in range. Of others it does not matter: row 7 or an earlier one is met.
 fn key_of(cue: CueNumbers) -> u64
@@ -39,7 +38,7 @@ fn on_cue(cue: CueNumbers, call: Call) -> Action
 
 // What a word asks for that has only the transaction's number behind it.
 fn number_action(word: NumberWord) -> Action
-    ensures { model_action result ≡ number_action word }
+    ensures { result ≡ number_action word }
 {
     match word {
         NumberWord::Begin => Action::Begin,
@@ -53,7 +52,7 @@ fn number_action(word: NumberWord) -> Action
 
 // The call of a word on the cue with this key.
 fn cue_call(word: CueWord, key: u64) -> Call
-    ensures { model_call result ≡ cue_call word key }
+    ensures { result ≡ cue_call word key }
 {
     match word {
         CueWord::Add => Call::Add(key),
@@ -65,34 +64,40 @@ fn cue_call(word: CueWord, key: u64) -> Call
 
 // What a step asks of the store.
 fn request_of(step: Step) -> Request
-    ensures { Asks (model_request result) step }
+    ensures { Asks (Some result) (Some step) }
 {
     match step {
-        Step::WithNumber(word, e) => Request::On(e, number_action(word)),
-        Step::WithCue(word, e, cue) => Request::On(e, on_cue(cue, cue_call(word, key_of(cue)))),
-        Step::Malformed => Request::Malformed,
+        Step::WithNumber(word, transaction) => Request {
+            transaction,
+            action: number_action(word),
+        },
+        Step::WithCue(word, transaction, cue) => Request {
+            transaction,
+            action: on_cue(cue, cue_call(word, key_of(cue))),
+        },
     }
 }
 
-// One step that has been read: refused with every word as it was, or accepted and done.
+// One step that has been read, none of a malformed line: refused with every word as it was, or accepted and done.
 pub fn execute(
     script: &mut [u64; 257],
     queue: &mut [u64; 65],
     ts: &mut [[u64; 64]; 8],
-    step: Step,
+    step: Option<Step>,
 ) -> Answer
     requires { StoreFits script.old queue.old ts.old }
     ensures { Stepped script.old queue.old ts.old
         (step_on (store_of script.old queue.old ts.old) (request_of step))
         script.new queue.new ts.new result }
 {
-    let request = request_of(step);
-    let Request::On(e, action) = request else {
+    let Some(step) = step else {
         return Answer::Refused(Refusal::Malformed);
     };
-    match refusal_of(script, queue, ts, e, action) {
-        Admission::Accepted => perform(script, queue, ts, e as usize, action),
-        Admission::Refused(refusal) => Answer::Refused(refusal),
+    let request = request_of(step);
+    let e = request.transaction;
+    match admit(script, queue, ts, e, request.action) {
+        Ok(()) => perform(script, queue, ts, e as usize, request.action),
+        Err(refusal) => Answer::Refused(refusal),
     }
 }
 

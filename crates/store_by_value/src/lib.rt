@@ -6,13 +6,14 @@
 #![tactic(auto)]
 
 ghost use Rattle.std.specs.Prelude.{◌≡◌, map};
-ghost use Rattle.scripts.specs.Script.{script_of};
+ghost use Rattle.scripts.specs.Script.{script_of, script_or_empty};
+ghost use Rattle.store.specs.Opening.{accepted};
 ghost use Rattle.boosting.specs.Store.{opened};
 ghost use Rattle.boosting.specs.Recovery.{recover as recoverM, rising};
 ghost use Rattle.store_by_value.specs.Values.{words_of, value_of, Fits, Holds, StepGives};
 
 use answers::Answer;
-use scripts::Outcome;
+use refusals::RefusedText;
 use store::{open, recover, step};
 
 // The words of one transaction.
@@ -30,7 +31,7 @@ pub struct Store {
 
 #[derive(Drop)]
 pub struct Opening {
-    pub outcome: Outcome,
+    pub outcome: Result<(), RefusedText>,
     pub store: Store,
 }
 
@@ -72,8 +73,8 @@ fn pack(ts: [[u64; 64]; 8]) -> [Record; 8]
 
 // The store of a script text, and whether the text was accepted. A refused text opens the empty script.
 pub fn open_store(text: &[u8]) -> Opening
-    ensures { (result.outcome ≡ (script_of text.now).0)
-        × Holds result.store (opened (script_of text.now).1) }
+    ensures answers { result.outcome ≡ accepted (script_of text.now) }
+    ensures opens { Holds result.store (opened (script_or_empty (script_of text.now))) }
 {
     let mut script = [0; 257];
     let mut queue = [0; 65];

@@ -9,7 +9,7 @@ ghost use Rattle.buffers.specs.Written.{written_at};
 ghost use Rattle.scripts.specs.ScriptText.{text_of};
 ghost use Rattle.store_words.specs.Words.{ScriptFits, QueueFits, script_in, queue_in};
 
-use buffers::Written;
+use refusals::Refusal;
 use script_texts::{cues_length, write_cues};
 use store_words::{QUEUE_COUNT, SCRIPT_COUNT};
 
@@ -32,7 +32,7 @@ pub fn queue_length(queue: &[u64; 65]) -> usize
 }
 
 // Writes the script's lines, if they fit.
-pub fn write_script(buf: &mut [u8], at: usize, script: &[u64; 257]) -> Written
+pub fn write_script(buf: &mut [u8], at: usize, script: &[u64; 257]) -> Result<usize, Refusal>
     requires { ScriptFits script.now }
     ensures { (result, buf.new)
         ≡ written_at buf.old at (text_of (script_in script.now)) }
@@ -42,7 +42,7 @@ pub fn write_script(buf: &mut [u8], at: usize, script: &[u64; 257]) -> Written
 }
 
 // Writes the queue's lines, if they fit.
-pub fn write_queue(buf: &mut [u8], at: usize, queue: &[u64; 65]) -> Written
+pub fn write_queue(buf: &mut [u8], at: usize, queue: &[u64; 65]) -> Result<usize, Refusal>
     requires { QueueFits queue.now }
     ensures { (result, buf.new)
         ≡ written_at buf.old at (text_of (queue_in queue.now)) }

@@ -1,5 +1,5 @@
 -- `formatting::format_script` meets its contract.
-use Rattle.std.proofs.Common.{ap, Err, arith, rules, ◌∙◌, ◌≡◌}
+use Rattle.std.proofs.Common.{ap, Err, arith, ◌∙◌, ◌≡◌}
 use Rattle.std.proofs.lemmas.Grind.{common_steps}
 use Rattle.formatting.specs.Format.{at_no_line}
 use Rattle.std.proofs.lemmas.Result.{err_from_is_err_and}
@@ -15,6 +15,6 @@ returns-in_err-script c =
 pub returns : goal.returns
 returns c =
     let f : c.map_err.result ≡ at_no_line c.write_script.result =
-    first_of (search rules, grind (arith, common_steps)) in
+    grind (arith, common_steps) in
     format_written c.args.text.now c.args.buf.now _ _ c.map_err.result c.write_script.new.buf c.in_ok-script.ensures
     c.write_script.ensures f

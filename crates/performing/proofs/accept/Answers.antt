@@ -2,9 +2,6 @@
 use Rattle.std.proofs.Common.{ap, ◌∙◌}
 use Rattle.boosting.specs.Object.{answer_of}
 use Rattle.boosting.specs.Undo.{entry_of}
-use Rattle.store_words.specs.Requests.{model_call}
-use Rattle.transactions.specs.Code.{model_lock}
-use Rattle.undo_logs.specs.Code.{model_newest}
 use Rattle.performing.proofs.Stores as laws
 use Rattle.performing.proofs.accept.Goals as goal
 
@@ -14,7 +11,7 @@ apply-reply-requires-clause-has_room c =
     let q = c.args.queue.now in
     let ts = c.args.ts.now in
     let e = c.args.e in
-    let k = model_call c.args.call in
+    let k = c.args.call in
     laws.call_room x q ts e k c.requires.0 c.requires.1
 
 pub enter-requires : goal.enter-requires
@@ -23,8 +20,8 @@ enter-requires c =
     let q = c.args.queue.now in
     let ts = c.args.ts.now in
     let e = c.args.e in
-    let k = model_call c.args.call in
-    laws.enter_ready x q ts e k c.requires.0 c.requires.1 (model_lock c.lock_of-lock.result) (model_newest c.entry_of-entry.result) c.lock_of-lock.ensures
+    let k = c.args.call in
+    laws.enter_ready x q ts e k c.requires.0 c.requires.1 c.lock_of-lock.result c.entry_of-entry.result c.lock_of-lock.ensures
     (c.entry_of-entry.ensures ∙ ap (entry_of k) c.apply-reply.ensures.result_value) c.requires.2
 
 pub returns : goal.returns
@@ -33,7 +30,7 @@ returns c =
     let q = c.args.queue.now in
     let ts = c.args.ts.now in
     let e = c.args.e in
-    let k = model_call c.args.call in
-    laws.accepted_done x q ts e k c.requires.0 c.requires.1 (model_lock c.lock_of-lock.result) (model_newest c.entry_of-entry.result) c.lock_of-lock.ensures
+    let k = c.args.call in
+    laws.accepted_done x q ts e k c.requires.0 c.requires.1 c.lock_of-lock.result c.entry_of-entry.result c.lock_of-lock.ensures
     (c.entry_of-entry.ensures ∙ ap (entry_of k) c.apply-reply.ensures.result_value) c.apply-reply.new.script c.apply-reply.new.queue c.enter.new.t c.answer_of.result
     c.apply-reply.ensures.state_holds c.enter.ensures (c.answer_of.ensures ∙ ap answer_of c.apply-reply.ensures.result_value)

@@ -4,7 +4,6 @@ use Rattle.answers.specs.declared.Answer.TheVariants.{Ok}
 use Rattle.boosting.specs.Rows.{abort}
 use Rattle.boosting.specs.Store.{aborting, closed}
 use Rattle.store_words.proofs.Places.{fit_at}
-use Rattle.transactions.specs.Code.{model_standing}
 use Rattle.store_words.proofs.Performed as words
 use Rattle.recovery.proofs.Recovering as laws
 use Rattle.recovery.proofs.abort_open.Goals as goal
@@ -20,7 +19,7 @@ returns-in-Closed c =
     let q = c.args.queue.now in
     let ts = c.args.ts.now in
     let e = c.args.e in
-    let p = sym c.standing_of.ensures ∙ ap model_standing c.in-Closed.is in
+    let p = sym c.standing_of.ensures ∙ c.in-Closed.is in
     laws.not_stepped x q ts e c.requires.0 c.requires.1 c.requires.2 abort closed p laws.closed-open
 
 pub returns-in-Open : goal.returns-in-Open
@@ -31,7 +30,7 @@ returns-in-Open c =
     let e = c.args.e in
     let p =
     sym c.standing_of.ensures
-    ∙ ap model_standing c.in-Open.is in
+    ∙ c.in-Open.is in
     let r = laws.abort-Ready x q ts e c.requires.0 c.requires.1 c.requires.2 p in
     laws.stepped x q ts e c.requires.0 c.requires.1 c.requires.2 x q _ Ok abort r
     (words.aborts x q ts e c.requires.1 c.abort.new.t r c.abort.ensures)
@@ -42,5 +41,5 @@ returns-in-Aborting c =
     let q = c.args.queue.now in
     let ts = c.args.ts.now in
     let e = c.args.e in
-    let p = sym c.standing_of.ensures ∙ ap model_standing c.in-Aborting.is in
+    let p = sym c.standing_of.ensures ∙ c.in-Aborting.is in
     laws.not_stepped x q ts e c.requires.0 c.requires.1 c.requires.2 abort aborting p laws.aborting-open

@@ -2,7 +2,6 @@
 use Rattle.std.proofs.Common.{ap, arith, sym, ◌∙◌}
 use Rattle.boosting.specs.Rows.{roll_back}
 use Rattle.boosting.specs.Store.{closed, «open»}
-use Rattle.transactions.specs.Code.{model_standing}
 use Rattle.recovery.proofs.Recovering as laws
 use Rattle.recovery.proofs.step_back.Goals as goal
 
@@ -15,7 +14,7 @@ returns-in-Closed c =
     let q = c.args.queue.now in
     let ts = c.args.ts.now in
     let e = c.args.e in
-    let p = sym c.standing_of.ensures ∙ ap model_standing c.in-Closed.is in
+    let p = sym c.standing_of.ensures ∙ c.in-Closed.is in
     laws.not_stepped x q ts e c.requires.0 c.requires.1 c.requires.2 roll_back closed p laws.closed-aborting
 
 pub returns-in-Open : goal.returns-in-Open
@@ -24,7 +23,7 @@ returns-in-Open c =
     let q = c.args.queue.now in
     let ts = c.args.ts.now in
     let e = c.args.e in
-    let p = sym c.standing_of.ensures ∙ ap model_standing c.in-Open.is in
+    let p = sym c.standing_of.ensures ∙ c.in-Open.is in
     laws.not_stepped x q ts e c.requires.0 c.requires.1 c.requires.2 roll_back «open» p laws.open-aborting
 
 pub returns-in-Aborting : goal.returns-in-Aborting

@@ -1,34 +1,39 @@
 -- `scanning::quick::quick_rest` meets its contract.
-use Rattle.std.proofs.Common.{arith, length, ◌++◌, ◌+◌, ◌<◌, ◌≡◌}
+use Rattle.std.proofs.Common.{arith, length, subst, sym, ◌++◌, ◌+◌, ◌<◌, ◌≡◌}
 use Rattle.digits.specs.Digits.{digits_of}
 use Rattle.quick_numbers.proofs.Laws.{digits_stand, nine_digits}
-use Rattle.quick_words.specs.QuickWord.{code_text}
+use Rattle.quick_words.specs.Row.{word_line}
 use Rattle.scanning.proofs.Completing.{earlier, ended, number_line, rest_field}
+use Rattle.scanning.specs.Quick.{Completes, RestFits}
+use Rattle.scanning.specs.declared.Scanned.{Scanned}
+use Rattle.std.specs.Prelude.{Some}
+use Rattle.step_words.specs.declared.Word.{Word}
+use Rattle.step_words.specs.declared.Word.TheVariants.{WithNumber as of_number, WithCue as of_cue}
+use Rattle.steps.specs.declared.reading.Step.TheVariants.{WithNumber}
 use Rattle.scanning.proofs.quick.quick_rest.Goals as goal
 
-pub quick_cue-requires : goal.quick_cue-requires
-quick_cue-requires c =
-    let a = c.args in
-    (omega arith, c.if-code-lt-NUMBER_CODES.true, nine_digits a.text.now a.at 1 _ c.transaction_at-e.ensures c.if-e-eq0.false)
+pub quick_cue-requires-clause-nine : goal.quick_cue-requires-clause-nine
+quick_cue-requires-clause-nine c = nine_digits c.args.text.now c.args.at 1 _ c.in_ok-e.ensures
 
-pub returns-then-text-at-eq-COMMA : goal.returns-then-text-at-eq-COMMA
-returns-then-text-at-eq-COMMA c =
+pub returns-in-WithCue : goal.returns-in-WithCue
+returns-in-WithCue c =
     let a = c.args in
-    rest_field (code_text a.code) a.text.now a.at 44 c.transaction_at-e.result c.quick_cue.result
-    c.transaction_at-e.ensures c.if-e-eq0.false (omega arith) c.if-text-at-eq-COMMA.true c.quick_cue.ensures
+    subst (λ (w : Word). RestFits (word_line w) a.text.now a.at c.quick_cue.result) (sym c.in-WithCue.is)
+    (rest_field (word_line (of_cue c.in-WithCue.word)) a.text.now a.at 44 c.in_ok-e.e c.quick_cue.result
+    c.in_ok-e.ensures (omega arith) c.if-text-at-eq-COMMA.true c.quick_cue.ensures)
 
-pub returns-then-text-at-eq-LF : goal.returns-then-text-at-eq-LF
-returns-then-text-at-eq-LF c =
+pub returns-in-WithNumber : goal.returns-in-WithNumber
+returns-in-WithNumber c =
     let a = c.args in
     let s = a.text.now in
-    let e = c.transaction_at-e.result in
-    let fits = c.transaction_at-e.ensures in
-    let some = c.if-e-eq0.false in
+    let w = c.in-WithNumber.word in
+    let e = c.in_ok-e.e in
+    let fits = c.in_ok-e.ensures in
     let h : a.at + 1 < length s = omega arith in
-    let d = digits_stand s a.at 1 e fits some in
-    let one : e.digits ≡ 1 = omega (arith, fits.few) in
-    earlier (code_text a.code) (digits_of e.value) s a.at (a.at + 1) _ (omega (arith, d.1, one)) d.0
-    (ended (code_text a.code ++ digits_of e.value) s _ (a.at + 1)
-    (number_line a.code e.value _ (omega (arith, c.if-code-lt-NUMBER_CODES.false)) c.number_word.ensures
-    (nine_digits s a.at 1 e fits some))
-    h c.if-text-at-eq-LF.true)
+    let d = digits_stand s a.at 1 e fits in
+    let one : e.digits ≡ 1 = omega (arith, fits.few, fits.some) in
+    let r : Scanned = record { step = Some (WithNumber w e.value); end = a.at + 1 } in
+    subst (λ (v : Word). Completes (word_line v) s a.at r) (sym c.in-WithNumber.is)
+    (earlier (word_line (of_number w)) (digits_of e.value) s a.at (a.at + 1) _ (omega (arith, d.1, one)) d.0
+    (ended (word_line (of_number w) ++ digits_of e.value) s _ (a.at + 1)
+    (number_line w e.value (nine_digits s a.at 1 e fits)) h c.if-text-at-eq-LF.true))

@@ -7,4 +7,4 @@ pub returns : goal.returns
 returns c =
     let a = c.args in
     laws.script_put c.copy_keys.new.to a.script.keys a.script.count c.key_count-n.result
-    (c.copy_keys.auto.to ∙ c.requires) c.key_count-n.ensures.0 c.key_count-n.ensures.1 c.copy_keys.ensures
+    (c.copy_keys.auto.to ∙ c.requires) c.key_count-n.ensures.counted c.key_count-n.ensures.at_most_256 c.copy_keys.ensures
