@@ -232,7 +232,8 @@ short_look s at e =
     rw (lt-leb 8 _ n) refl
 
 module _ (rows : List Row) (known : rows ≡ table_rows) (s : List ℕ) (at : ℕ) where
-  module _ (x : ℕ) (e : Some x ≡ eight_at s at) (bytes : at + 8 ≤ length s → AllBytes (take 8 (drop at s))) (d : Row) where
+  module _ (x : ℕ) (e : Some x ≡ eight_at s at) (bytes : at + 8 ≤ length s → AllBytes (take 8 (drop at s))) (d : Row)
+    where
     room : 8 ≤ length (drop at s)
     room = let f = eight_found s at x e in omega (arith, length-drop at s)
 
