@@ -5,7 +5,6 @@
 // never needs more than 3,584 bytes.
 #![tactic(auto)]
 
-use buffers::Written;
 use formatting::write_report;
 use std::io::{self, Read, Write};
 
@@ -14,7 +13,7 @@ fn main(rt: HostRuntime) -> io::Result<()> {
     rt.reader().take(65537).read_to_end(&mut input)?;
     let mut output = [0u8; 3584];
     let written = write_report(&mut output, &input);
-    if let Written::Upto(end) = written {
+    if let Ok(end) = written {
         io::writer(&rt).write_all(&output[..end])?;
     }
     Ok(())

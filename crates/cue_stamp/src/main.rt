@@ -3,7 +3,6 @@
 // The input is read in pieces; the checksum of a text does not depend on how it is cut.
 #![tactic(auto)]
 
-use buffers::Written;
 use checksum::checksum_from;
 use records::write_field;
 use std::io::{self, Read, Write};
@@ -28,8 +27,8 @@ fn stamp_input<R: Input + AllocGlobal>(rt: &R) -> io::Result<u32> {
 fn main(rt: HostRuntime) -> io::Result<()> {
     let sum = stamp_input(&rt)?;
     let mut output = [0u8; 16];
-    let written = write_field(&mut output, 0, sum as u64, b'\n');
-    if let Written::Upto(end) = written {
+    let written = write_field(&mut output, 0, u64::from(sum), b'\n');
+    if let Ok(end) = written {
         io::writer(&rt).write_all(&output[..end])?;
     }
     Ok(())

@@ -7,9 +7,9 @@ use Rattle.cue_stamp.proofs.main.Goals as goal
 pub slice_bounds-output-end : goal.slice_bounds-output-end
 slice_bounds-output-end c =
     let w = c.write_field-written in
-    omega (arith, within _ _ _ w.result 0 _ w.ensures c.in-Upto.is, w.auto.buf)
+    omega (arith, within _ _ _ w.result 0 _ w.ensures c.in-Ok.is, w.auto.buf)
 
 pub slice_bounds-write_all-end : goal.slice_bounds-write_all-end
 slice_bounds-write_all-end c =
     let w = c.write_field-written in
-    sym (length-take-le _ _ (omega (arith, within _ _ _ w.result 0 _ w.ensures c.in-Upto.is, w.auto.buf)))
+    sym (length-take-le _ _ (omega (arith, within _ _ _ w.result 0 _ w.ensures c.in-Ok.is, w.auto.buf)))
