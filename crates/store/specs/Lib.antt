@@ -1,4 +1,2 @@
--- What opening asks of the words, and what a step leaves in them.
-pub mod Opening
-pub mod Sized
-pub mod Stepped
+-- What the contracts of the store cite beside the model.
+pub mod Answering

@@ -1,15 +1,81 @@
-// The store in words that the caller lends: opened from a script text, stepped by raw lines or by steps that have been
-// read, written out.
+// The store: one script, one queue and eight transactions, opened from a script text, stepped by raw lines or by steps
+// that have been read, recovered, and written out.
 //
-// The script has 257 words, the queue 65, and each of the eight transactions a record of 64 (`store_words`); they are
-// altered where they stand. `open` fills words of any contents. Every other function asks for what `open` establishes
-// and every step keeps (`StoreFits`, or its part), and none asks anything of the bytes of a text or a line.
+// Clauses see the model's store. What opening and stepping keep of it (`Sound`: order, ranges and room) is the type's
+// invariant, so no function asks for anything. Each changes the store where it stands: it has 7 kB.
 #![tactic(auto)]
 
-mod opening;
-mod stepping;
+ghost use Rattle.std.specs.Prelude.{◌≡◌, [], replicate};
+ghost use Rattle.boosting.specs.Store.{closed_transaction, opened};
+ghost use Rattle.boosting.specs.Sound.{Sound};
 
-pub use opening::open;
-pub use recovery::recover;
-pub use stepping::{execute, step};
-pub use store_texts::{queue_length, script_length, write_queue, write_script};
+mod opening;
+mod performing;
+mod recovery;
+mod stepping;
+mod texts;
+
+use shared_object::SharedObject;
+use std::marker::Model;
+use transactions::Transaction;
+
+#[derive(Drop)]
+pub struct Store {
+    object: SharedObject,
+    transactions: [Transaction; 8],
+}
+
+impl Model for Store {
+    ghost use Rattle.boosting.specs.Store.{Store as ModelStore};
+    ghost use Rattle.boosting.specs.Sound.{Sound};
+
+    ghost Value = { ModelStore };
+
+    ghost view = { λ d. record { state = d.object; transactions = d.transactions } };
+
+    ghost invariant = { λ d. Sound (record { state = d.object; transactions = d.transactions }) };
+}
+
+// Eight closed transactions.
+fn all_closed() -> [Transaction; 8]
+    ensures { result ≡ replicate 8 closed_transaction }
+{
+    [
+        Transaction::new(),
+        Transaction::new(),
+        Transaction::new(),
+        Transaction::new(),
+        Transaction::new(),
+        Transaction::new(),
+        Transaction::new(),
+        Transaction::new(),
+    ]
+}
+
+impl Store {
+    // The store of the empty script.
+    pub fn new() -> Self
+        ensures { result ≡ opened [] }
+    {
+        Store {
+            object: SharedObject::new(),
+            transactions: all_closed(),
+        }
+    }
+
+    // The script and the queue.
+    pub fn object(&self) -> &SharedObject
+        ensures value { result.now ≡ self.now.state }
+        ensures sound { Sound self.now }
+    {
+        &self.object
+    }
+
+    // The eight transactions, in the order of their numbers.
+    pub fn transactions(&self) -> &[Transaction; 8]
+        ensures value { result.now ≡ self.now.transactions }
+        ensures sound { Sound self.now }
+    {
+        &self.transactions
+    }
+}

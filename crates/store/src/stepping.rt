@@ -1,40 +1,19 @@
 // One step, by a raw line or one that has been read: turned into a request, tried by the rows of the table, and
 // performed.
-ghost use Rattle.std.specs.Prelude.{◌≡◌, true, Some};
-ghost use Rattle.cues.specs.Cue.{in_range, key_of};
-ghost use Rattle.boosting.specs.Rows.{number_action, cue_call, request_of};
+ghost use Rattle.std.specs.Prelude.{◌≡◌, ℕ, Some};
+ghost use Rattle.boosting.specs.Rows.{number_action, cue_call, request, request_of};
+ghost use Rattle.boosting.specs.Sound.{RequestKey};
 ghost use Rattle.boosting.specs.Step.{step_on, step_line};
-ghost use Rattle.store_words.specs.Words.{store_of, StoreFits};
-ghost use Rattle.store.specs.Stepped.{Asks, Stepped};
+ghost use Rattle.store.specs.Answering.{answered, Asks};
 
-use admission::admit;
+use crate::Store;
+use admission::{try_call, try_step};
 use answers::Answer;
 use cues::{Cue, CueNumbers};
-use performing::perform;
 use refusals::Refusal;
 use step_words::{CueWord, NumberWord};
 use steps::{Step, read_step};
 use vocabulary::{Action, Call, Request};
-
-// The key of a cue's numbers where they are in range. Of others it does not matter: row 7 or an earlier one is met.
-fn key_of(cue: CueNumbers) -> u64
-    ensures { in_range cue.time cue.«module» cue.pin ≡ true
-        → result ≡ key_of (record { time = cue.time; «module» = cue.«module»; pin = cue.pin }) }
-{
-    let cue = Cue {
-        time: (cue.time % 4294967296) as u32,
-        module: (cue.module % 256) as u8,
-        pin: (cue.pin % 256) as u8,
-    };
-    cue.key()
-}
-
-// Whether the call's cue is in range, and the call.
-fn on_cue(cue: CueNumbers, call: Call) -> Action
-    ensures { result ≡ Action.OnObject (in_range cue.time cue.«module» cue.pin) call }
-{
-    Action::OnObject(cue.in_range(), call)
-}
 
 // What a word asks for that has only the transaction's number behind it.
 fn number_action(word: NumberWord) -> Action
@@ -62,6 +41,16 @@ fn cue_call(word: CueWord, key: u64) -> Call
     }
 }
 
+// What a word asks of the cue of these numbers. Out of range any key will do: row 7 or an earlier one is met.
+fn cue_action(word: CueWord, numbers: CueNumbers) -> Action
+    ensures { (transaction : ℕ) → Asks (request transaction result) (Some (Step.WithCue word transaction numbers)) }
+{
+    match Cue::try_from(numbers) {
+        Ok(cue) => Action::OnObject(true, cue_call(word, cue.key())),
+        Err(_) => Action::OnObject(false, cue_call(word, 0)),
+    }
+}
+
 // What a step asks of the store.
 fn request_of(step: Step) -> Request
     ensures { Asks (Some result) (Some step) }
@@ -71,47 +60,63 @@ fn request_of(step: Step) -> Request
             transaction,
             action: number_action(word),
         },
-        Step::WithCue(word, transaction, cue) => Request {
+        Step::WithCue(word, transaction, numbers) => Request {
             transaction,
-            action: on_cue(cue, cue_call(word, key_of(cue))),
+            action: cue_action(word, numbers),
         },
     }
 }
 
-// One step that has been read, none of a malformed line: refused with every word as it was, or accepted and done.
-pub fn execute(
-    script: &mut [u64; 257],
-    queue: &mut [u64; 65],
-    ts: &mut [[u64; 64]; 8],
-    step: Option<Step>,
-) -> Answer
-    requires { StoreFits script.old queue.old ts.old }
-    ensures { Stepped script.old queue.old ts.old
-        (step_on (store_of script.old queue.old ts.old) (request_of step))
-        script.new queue.new ts.new result }
-{
-    let Some(step) = step else {
-        return Answer::Refused(Refusal::Malformed);
-    };
-    let request = request_of(step);
-    let e = request.transaction;
-    match admit(script, queue, ts, e, request.action) {
-        Ok(()) => perform(script, queue, ts, e as usize, request.action),
-        Err(refusal) => Answer::Refused(refusal),
+impl Store {
+    // One request: turned away with nothing changed, or accepted and done.
+    #[inline(always)]
+    fn try_request(&mut self, request: Request) -> Result<Answer, Refusal>
+        requires { RequestKey (Some request) }
+        ensures store { self.new ≡ (step_on self.old (Some request)).store }
+        ensures answer { answered result ≡ (step_on self.old (Some request)).answer }
+    {
+        let e = try_step(&self.transactions, request)?;
+        match request.action {
+            Action::Begin => {
+                self.begin(e);
+                Ok(Answer::Ok)
+            }
+            Action::Commit => {
+                self.commit(e);
+                Ok(Answer::Ok)
+            }
+            Action::Abort => {
+                self.abort(e);
+                Ok(Answer::Ok)
+            }
+            Action::RollBack => Ok(self.roll_back(e)),
+            Action::OnObject(in_range, call) => {
+                let reply = try_call(&self.object, &self.transactions, e, call)?;
+                Ok(self.accept(e, in_range, call, reply))
+            }
+        }
     }
-}
 
-// One step on a line, without its LF.
-pub fn step(
-    script: &mut [u64; 257],
-    queue: &mut [u64; 65],
-    ts: &mut [[u64; 64]; 8],
-    line: &[u8],
-) -> Answer
-    requires { StoreFits script.old queue.old ts.old }
-    ensures { Stepped script.old queue.old ts.old
-        (step_line (store_of script.old queue.old ts.old) line.now)
-        script.new queue.new ts.new result }
-{
-    execute(script, queue, ts, read_step(line))
+    // One step that has been read, or none where a line is no step: refused with nothing changed, or accepted and done.
+    pub fn execute(&mut self, step: Option<Step>) -> Answer
+        ensures store { self.new ≡ (step_on self.old (request_of step)).store }
+        ensures answer { result ≡ (step_on self.old (request_of step)).answer }
+    {
+        let Some(step) = step else {
+            return Answer::Refused(Refusal::Malformed);
+        };
+        match self.try_request(request_of(step)) {
+            Ok(answer) => answer,
+            Err(refusal) => Answer::Refused(refusal),
+        }
+    }
+
+    // One step on a line, without its LF.
+    #[tactic(auto, unfolding(boosting::specs::Step::step_line))]
+    pub fn step(&mut self, line: &[u8]) -> Answer
+        ensures store { self.new ≡ (step_line self.old line.now).store }
+        ensures answer { result ≡ (step_line self.old line.now).answer }
+    {
+        self.execute(read_step(line))
+    }
 }

@@ -1,0 +1,10 @@
+use Rattle.std.proofs.Common.{List, ℕ, length, ap, ◌∙◌, arith}
+use Rattle.scripts.specs.ScriptText.{text_of}
+use Rattle.boosting.specs.Store.{Store}
+use Rattle.store.proofs.Opened.{keys_all}
+use Rattle.store.proofs.Store.queue_length.Goals as goal
+
+pub returns : goal.returns
+returns c =
+    let all = keys_all _ c.queue-queue.result.now c.queue-queue.ensures.value (omega (arith, ap length c.queue-queue.ensures.value, c.queue-queue.ensures.fits)) in
+    c.cues_length.ensures.counted ∙ ap (λ (l : List ℕ). length (text_of l)) (all ∙ ap (λ (d : Store). d.state.queue) c.self.view_is)

@@ -1,0 +1,69 @@
+// Recovery: every unclosed transaction is undone, newest entry first, and closed, in rising numbers.
+ghost use Rattle.std.specs.Prelude.{◌≡◌, ◌≤◌};
+ghost use Rattle.boosting.specs.Rows.{request, abort, roll_back};
+ghost use Rattle.boosting.specs.Step.{step_on};
+ghost use Rattle.boosting.specs.Recovery.{roll_backs, recover_one, recover, rising};
+
+use crate::Store;
+use vocabulary::Standing;
+
+impl Store {
+    // An open transaction is aborting from now on; any other refuses, and nothing changes.
+    fn abort_open(&mut self, e: usize)
+        requires lowest { 1 ≤ e }
+        requires highest { e ≤ 8 }
+        ensures { self.new ≡ (step_on self.old (request e abort)).store }
+    {
+        match self.transactions[e - 1].standing() {
+            Standing::Closed => {}
+            Standing::Open => self.abort(e),
+            Standing::Aborting => {}
+        }
+    }
+
+    // One entry of an aborting transaction is undone; any other refuses, and nothing changes.
+    fn step_back(&mut self, e: usize)
+        requires lowest { 1 ≤ e }
+        requires highest { e ≤ 8 }
+        ensures { self.new ≡ (step_on self.old (request e roll_back)).store }
+    {
+        match self.transactions[e - 1].standing() {
+            Standing::Closed => {}
+            Standing::Open => {}
+            Standing::Aborting => {
+                self.roll_back(e);
+            }
+        }
+    }
+
+    // So many rollback steps.
+    fn roll_backs(&mut self, e: usize, steps: usize)
+        requires lowest { 1 ≤ e }
+        requires highest { e ≤ 8 }
+        ensures { self.new ≡ roll_backs steps self.old e }
+    {
+        for _step in 0..steps {
+            self.step_back(e);
+        }
+    }
+
+    // Transaction e is undone and closed, if it is not.
+    fn recover_one(&mut self, e: usize)
+        requires lowest { 1 ≤ e }
+        requires highest { e ≤ 8 }
+        ensures { self.new ≡ recover_one self.old e }
+    {
+        let entries = self.transactions[e - 1].log().len();
+        self.abort_open(e);
+        self.roll_backs(e, entries + 1);
+    }
+
+    // Every unclosed transaction is undone and closed.
+    pub fn recover(&mut self)
+        ensures { self.new ≡ recover self.old rising }
+    {
+        for e in 1..9 {
+            self.recover_one(e);
+        }
+    }
+}

@@ -1,0 +1,43 @@
+// The cue lines of the script and of the queue, in rising order, written at a place of a lent buffer: whole or not at
+// all.
+ghost use Rattle.std.specs.Prelude.{◌≡◌, length};
+ghost use Rattle.buffers.specs.Written.{written_at};
+ghost use Rattle.scripts.specs.ScriptText.{text_of};
+
+use crate::Store;
+use refusals::Refusal;
+use script_texts::{cues_length, write_cues};
+
+impl Store {
+    // How many bytes the script's lines have.
+    pub fn script_length(&self) -> usize
+        ensures { result ≡ length (text_of self.now.state.script) }
+    {
+        let script = self.object.script();
+        cues_length(script, script.len())
+    }
+
+    // How many bytes the queue's lines have.
+    pub fn queue_length(&self) -> usize
+        ensures { result ≡ length (text_of self.now.state.queue) }
+    {
+        let queue = self.object.queue();
+        cues_length(queue, queue.len())
+    }
+
+    // Writes the script's lines, if they fit.
+    pub fn write_script(&self, buf: &mut [u8], at: usize) -> Result<usize, Refusal>
+        ensures { (result, buf.new) ≡ written_at buf.old at (text_of self.now.state.script) }
+    {
+        let script = self.object.script();
+        write_cues(buf, at, script, script.len())
+    }
+
+    // Writes the queue's lines, if they fit.
+    pub fn write_queue(&self, buf: &mut [u8], at: usize) -> Result<usize, Refusal>
+        ensures { (result, buf.new) ≡ written_at buf.old at (text_of self.now.state.queue) }
+    {
+        let queue = self.object.queue();
+        write_cues(buf, at, queue, queue.len())
+    }
+}
