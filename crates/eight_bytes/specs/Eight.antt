@@ -1,5 +1,6 @@
 -- Eight bytes of a text as one number, the first byte the lowest. Assumes nothing.
-use Rattle.std.specs.Prelude.{ℕ, ◌+◌, ◌*◌, ◌<◌, if◌then◌else◌, Option, Some, None, List, [], ◌∷◌, nat_le, length, take, drop}
+use Rattle.std.specs.Prelude.{ℕ, ◌+◌, ◌*◌, ◌<◌, if◌then◌else◌, List, [], ◌∷◌, nat_le, length, take, drop}
+use Rattle.std.specs.Prelude.{Option, Some, None}
 
 -- bytes as one number in base 256, the first the lowest
 abbrev pub number_from : List ℕ → ℕ

@@ -1,5 +1,6 @@
 -- A short number at the front of a text. Assumes nothing.
-use Rattle.std.specs.Prelude.{◌≡◌, ℕ, ◌+◌, ◌<◌, ◌≤◌, if◌then◌else◌, List, length, take, drop, nat_le, Option, Some, None}
+use Rattle.std.specs.Prelude.{◌≡◌, ℕ, ◌+◌, ◌<◌, ◌≤◌, if◌then◌else◌, List, length, take, drop, nat_le}
+use Rattle.std.specs.Prelude.{Option, Some, None}
 use Rattle.numbers.specs.Number.{number_of}
 use Rattle.numbers.specs.Field.{leading}
 use Rattle.quick_numbers.specs.declared.Short.{Short}

@@ -1,6 +1,7 @@
 -- What a quick look at a line finds: the step whose text stands there. It may always find nothing, so these say only
 -- what holds of what it found. Assumes nothing.
-use Rattle.std.specs.Prelude.{ℕ, ◌-◌, ◌≤◌, ◌<◌, ◌≡◌, List, ◌++◌, length, slice_index, take, drop, Option, IfSome, IsSomeAnd}
+use Rattle.std.specs.Prelude.{ℕ, ◌-◌, ◌≤◌, ◌<◌, ◌≡◌, List, ◌++◌, length, slice_index, take, drop}
+use Rattle.std.specs.Prelude.{Option, IfSome, IsSomeAnd}
 use Rattle.steps.specs.declared.reading.Step.{Step}
 use Rattle.steps.specs.StepText.{step_text, NineDigitStep}
 use Rattle.scanning.specs.declared.Scanned.{Scanned}
