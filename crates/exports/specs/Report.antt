@@ -1,14 +1,13 @@
 -- A writer's answer as one number, for callers in other languages. Assumes nothing.
-use Rattle.std.specs.Prelude.{ℕ, ◌+◌, List}
+use Rattle.std.specs.Prelude.{ℕ, ◌+◌, List, Result, Ok, Err}
 use Rattle.refusals.specs.Refusal.{refusal_number}
 use Rattle.buffers.specs.Written.{written_at}
-use Rattle.buffers.specs.declared.Written.{Written}
-use Rattle.buffers.specs.declared.Written.TheVariants.{Upto, Refused}
+use Rattle.refusals.specs.declared.Refusal.{Refusal}
 
 -- how many bytes were written, or the refusal's number above 2^32
-abbrev pub answer_number : Written → ℕ
-answer_number (Upto n) = n
-answer_number (Refused r) = 4294967296 + refusal_number r
+abbrev pub answer_number : Result ℕ Refusal → ℕ
+answer_number (Ok n) = n
+answer_number (Err r) = 4294967296 + refusal_number r
 
 -- a text written to the front of a buffer: the answer's number, and the buffer behind it
 abbrev pub exported : List ℕ → List ℕ → ℕ × List ℕ

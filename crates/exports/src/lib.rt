@@ -7,18 +7,17 @@ ghost use Rattle.formatting.specs.Format.{report_of};
 ghost use Rattle.session.specs.Output.{output_of};
 ghost use Rattle.exports.specs.Report.{answer_number, exported};
 
-use buffers::Written;
 use checksum::checksum_from;
 use formatting::write_report;
-use refusals::refusal_number;
+use refusals::Refusal;
 use session::run_session;
 
-fn answer_number(written: Written) -> u64
+fn answer_number(written: Result<usize, Refusal>) -> u64
     ensures { result ≡ answer_number written }
 {
     match written {
-        Written::Upto(end) => end as u64,
-        Written::Refused(refusal) => 4294967296 + refusal_number(refusal),
+        Ok(end) => end as u64,
+        Err(refusal) => 4294967296 + refusal.number(),
     }
 }
 

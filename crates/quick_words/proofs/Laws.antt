@@ -234,35 +234,35 @@ short_look s at e =
 module _ (rows : List Row) (known : rows ≡ table_rows) (s : List ℕ) (at : ℕ) where
   module _ (x : ℕ) (e : Some x ≡ eight_at s at) (bytes : at + 8 ≤ length s → AllBytes (take 8 (drop at s))) (d : Row)
     where
-    room : 8 ≤ length (drop at s)
-    room = let f = eight_found s at x e in omega (arith, length-drop at s)
+      room : 8 ≤ length (drop at s)
+      room = let f = eight_found s at x e in omega (arith, length-drop at s)
 
-    value : x ≡ number_from (take 8 (drop at s))
-    value = (eight_found s at x e).1
+      value : x ≡ number_from (take 8 (drop at s))
+      value = (eight_found s at x e).1
 
-    small : AllBytes (take 8 (drop at s))
-    small = bytes (eight_found s at x e).0
+      small : AllBytes (take 8 (drop at s))
+      small = bytes (eight_found s at x e).0
 
-    only : (w : Word) → begins (drop at s) w ≡ true → w ≡ guess x
-    only = guessed (drop at s) x value small room
+      only : (w : Word) → begins (drop at s) w ≡ true → w ≡ guess x
+      only = guessed (drop at s) x value small room
 
-    row_is : get_or rows (slot x) d ≡ row_of (guess x)
-    unfolding table_rows
-    row_is = rw known (get_or-map row_of slots (slot x) (WithNumber Begin) d (omega arith))
+      row_is : get_or rows (slot x) d ≡ row_of (guess x)
+      unfolding table_rows
+      row_is = rw known (get_or-map row_of slots (slot x) (WithNumber Begin) d (omega arith))
 
-    pub word_is : bit_and x (get_or rows (slot x) d).mask ≡ (get_or rows (slot x) d).number
-        → Some (record { word = (get_or rows (slot x) d).word; length = (get_or rows (slot x) d).length })
-        ≡ word_found (drop at s)
-    word_is q =
-        let same : bit_and x (row_of (guess x)).mask ≡ (row_of (guess x)).number = rw row_is at q in
-        rw row_is
-        (look_finds (drop at s) (guess x) only room (compared (drop at s) x value small room (guess x) same))
+      pub word_is : bit_and x (get_or rows (slot x) d).mask ≡ (get_or rows (slot x) d).number
+          → Some (record { word = (get_or rows (slot x) d).word; length = (get_or rows (slot x) d).length })
+          ≡ word_found (drop at s)
+      word_is q =
+          let same : bit_and x (row_of (guess x)).mask ≡ (row_of (guess x)).number = rw row_is at q in
+          rw row_is
+          (look_finds (drop at s) (guess x) only room (compared (drop at s) x value small room (guess x) same))
 
-    pub word_not : (bit_and x (get_or rows (slot x) d).mask ≡ (get_or rows (slot x) d).number → ⊥)
-        → None ≡ word_found (drop at s)
-    word_not n =
-        look_misses (drop at s) (guess x) only room
-        (λ b. n (rw row_is (begun (drop at s) x value small room (guess x) b)))
+      pub word_not : (bit_and x (get_or rows (slot x) d).mask ≡ (get_or rows (slot x) d).number → ⊥)
+          → None ≡ word_found (drop at s)
+      word_not n =
+          look_misses (drop at s) (guess x) only room
+          (λ b. n (rw row_is (begun (drop at s) x value small room (guess x) b)))
 
 -- the word that a look found stands there
 pub word_stands : (s : List ℕ) (at : ℕ) (q : QuickWord) → word_found (drop at s) ≡ Some q

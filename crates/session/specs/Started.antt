@@ -1,9 +1,8 @@
 -- What the start of a session leaves: in each case, what the program prints. Assumes nothing.
-use Rattle.std.specs.Prelude.{ℕ, ◌≤◌, ◌≡◌, List, length, drop}
+use Rattle.std.specs.Prelude.{ℕ, ◌≤◌, ◌≡◌, List, length, drop, Result, Ok, Err}
+use Rattle.refusals.specs.declared.RefusedText.{RefusedText}
 use Rattle.lines.specs.Lines.{lines_of}
 use Rattle.store_words.specs.Words.{store_of, StoreFits}
-use Rattle.session.specs.declared.starting.Start.{Start}
-use Rattle.session.specs.declared.starting.Start.TheVariants.{Steps, Refused}
 use Rattle.session.specs.Output.{run_text, start_refused, output_of}
 
 -- the words show a store that, stepped through the lines from the place on, prints the output
@@ -13,6 +12,6 @@ pub record Running (s q : List ℕ) (ts : List (List ℕ)) (input : List ℕ) (f
   pub within : from ≤ length input
   pub prints : run_text (store_of s q ts) (lines_of (drop from input)) ≡ output_of input
 
-abbrev pub Started : List ℕ → List ℕ → List (List ℕ) → List ℕ → Start → Type 0
-Started s q ts input (Steps from) = Running s q ts input from
-Started s q ts input (Refused r line) = start_refused r line ≡ output_of input
+abbrev pub Started : List ℕ → List ℕ → List (List ℕ) → List ℕ → Result ℕ RefusedText → Type 0
+Started s q ts input (Ok from) = Running s q ts input from
+Started s q ts input (Err why) = start_refused why.refusal why.line ≡ output_of input

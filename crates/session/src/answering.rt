@@ -11,7 +11,7 @@ ghost use Rattle.store_words.specs.Performed.{Shows};
 ghost use Rattle.session.specs.Output.{answer_lines};
 ghost use Rattle.session.specs.Answering.{RoomFor, Kept};
 
-use quick_words::word_table;
+use quick_words::WordTable;
 use scanning::scan_step;
 use short_answers::append_answer;
 use store::execute;
@@ -51,7 +51,7 @@ fn answer_lines(
         (run (store_of script.old queue.old ts.old)
         (lines_of text.now)).store }
 {
-    let words = word_table();
+    let words = WordTable::new();
     let mut sum = 0;
     let mut at = 0;
     while at < text.len() {

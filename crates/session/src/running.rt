@@ -7,8 +7,7 @@ ghost use Rattle.store_words.specs.Words.{store_of, StoreFits};
 ghost use Rattle.session.specs.Output.{run_text, output_of};
 
 use crate::answering::{answers_length, put_answers};
-use crate::starting::{Start, put_refused, refused_length, start_session};
-use buffers::Written;
+use crate::starting::{put_refused, refused_length, start_session};
 use closing_lists::{closing_length, write_closing};
 use refusals::Refusal;
 use store::recover;
@@ -33,7 +32,7 @@ fn put_run(
 {
     let middle = put_answers(buf, script, queue, ts, text);
     recover(script, queue, ts);
-    let Written::Upto(end) = write_closing(buf, middle, script, queue) else {
+    let Ok(end) = write_closing(buf, middle, script, queue) else {
         return middle;
     };
     end
@@ -64,8 +63,8 @@ fn put_session(buf: &mut [u8], input: &[u8]) -> usize
     let mut queue = [0u64; 65];
     let mut ts = [[0u64; 64]; 8];
     match start_session(&mut script, &mut queue, &mut ts, input) {
-        Start::Steps(from) => put_run(buf, &mut script, &mut queue, &mut ts, &input[from..]),
-        Start::Refused(refusal, line) => put_refused(buf, refusal, line),
+        Ok(from) => put_run(buf, &mut script, &mut queue, &mut ts, &input[from..]),
+        Err(refused) => put_refused(buf, refused),
     }
 }
 
@@ -77,19 +76,18 @@ pub fn session_length(input: &[u8]) -> usize
     let mut queue = [0u64; 65];
     let mut ts = [[0u64; 64]; 8];
     match start_session(&mut script, &mut queue, &mut ts, input) {
-        Start::Steps(from) => run_length(&mut script, &mut queue, &mut ts, &input[from..]),
-        Start::Refused(refusal, line) => refused_length(refusal, line),
+        Ok(from) => run_length(&mut script, &mut queue, &mut ts, &input[from..]),
+        Err(refused) => refused_length(refused),
     }
 }
 
 // Writes what the program prints for an input to the front of the buffer, if it fits there. A buffer of `ROOM` bytes
 // holds every output; a shorter one costs a second run of the session, which counts the bytes.
-pub fn run_session(buf: &mut [u8], input: &[u8]) -> Written
+pub fn run_session(buf: &mut [u8], input: &[u8]) -> Result<usize, Refusal>
     ensures { (result, buf.new) ≡ written_at buf.old 0 (output_of input.now) }
 {
     if buf.len() < ROOM && buf.len() < session_length(input) {
-        return Written::Refused(Refusal::BufferTooShort);
+        return Err(Refusal::BufferTooShort);
     }
-    let end = put_session(buf, input);
-    Written::Upto(end)
+    Ok(put_session(buf, input))
 }

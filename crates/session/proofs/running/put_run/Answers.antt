@@ -35,4 +35,4 @@ returns c =
     let closing = closing_text (state_of c.recover.new.script c.recover.new.queue) in
     let e = sym (run_text_lem d _ _ ls c.put_answers-middle.ensures.1.is c.recover.ensures.is) in
     rest_written a.buf.now (answer_lines d ls) closing (run_text d ls) 0 e c.put_answers-middle.new.buf c.put_answers-middle.result c.put_answers-middle.ensures.0
-    (omega (arith, c.requires.1)) c.write_closing.new.buf c.write_closing.result c.write_closing.ensures _ c.in-Upto.is
+    (omega (arith, c.requires.1)) c.write_closing.new.buf c.write_closing.result c.write_closing.ensures _ c.in-Ok.is

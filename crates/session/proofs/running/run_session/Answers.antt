@@ -9,11 +9,11 @@ use Rattle.session.proofs.running.run_session.Goals as goal
 pub returns-then-buf-session_length : goal.returns-then-buf-session_length
 returns-then-buf-session_length c = grind (arith, too_short)
 
-pub put_session-end-requires : goal.put_session-end-requires
-put_session-end-requires c = grind (arith, output_fits)
+pub put_session-requires : goal.put_session-requires
+put_session-requires c = grind (arith, output_fits)
 
 pub returns : goal.returns
 returns c =
     let a = c.args in
     let h : length (output_of a.input.now) ≤ length a.buf.now = grind (arith, output_fits) in
-    put_written a.buf.now c.put_session-end.new.buf (output_of a.input.now) 0 _ (omega (arith, h)) c.put_session-end.ensures
+    put_written a.buf.now c.put_session.new.buf (output_of a.input.now) 0 _ (omega (arith, h)) c.put_session.ensures

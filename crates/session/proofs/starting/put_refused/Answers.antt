@@ -10,16 +10,16 @@ use Rattle.session.proofs.starting.put_refused.Goals as goal
 pub returns-in_default : goal.returns-in_default
 returns-in_default c =
     let a = c.args in
-    let q = refused_text a.refusal a.line c.refusal_number.result c.refusal_number.ensures.0 in
+    let q = refused_text a.refused.refusal a.refused.line c.number-number.result c.number-number.ensures.is_the_row in
     let e = c.write_record.ensures ∙ ap (written_at a.buf.now 0) q in
     absurd
-    (not_refused a.buf.now c.write_record.new.buf (start_refused a.refusal a.line) _ 0 _ (omega arith) e
+    (not_refused a.buf.now c.write_record.new.buf (start_refused a.refused.refusal a.refused.line) _ 0 _ (omega arith) e
     c.in_default.is)
 
 pub returns : goal.returns
 returns c =
     let a = c.args in
-    let q = refused_text a.refusal a.line c.refusal_number.result c.refusal_number.ensures.0 in
+    let q = refused_text a.refused.refusal a.refused.line c.number-number.result c.number-number.ensures.is_the_row in
     let e = c.write_record.ensures ∙ ap (written_at a.buf.now 0) q in
-    wrote a.buf.now c.write_record.new.buf (start_refused a.refusal a.line) _ 0 _ (omega arith) e
-    c.in-Upto.is
+    wrote a.buf.now c.write_record.new.buf (start_refused a.refused.refusal a.refused.line) _ 0 _ (omega arith) e
+    c.in-Ok.is

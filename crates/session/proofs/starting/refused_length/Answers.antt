@@ -5,5 +5,5 @@ use Rattle.session.proofs.starting.refused_length.Goals as goal
 pub returns : goal.returns
 returns c =
     let a = c.args in
-    refused_counted a.refusal a.line c.refusal_number.result _ _ c.refusal_number.ensures.0 c.digit_count.ensures.0
-    c.digit_count-2.ensures.0
+    refused_counted a.refused.refusal a.refused.line c.number-number.result _ _ c.number-number.ensures.is_the_row c.digit_count.ensures.counted
+    c.digit_count-2.ensures.counted
