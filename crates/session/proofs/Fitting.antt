@@ -2,7 +2,6 @@
 use mathlib.Core.Path.{◌≡◌, refl, ap, ◌∙◌}
 use mathlib.Core.Bool.{Bool, true, false, cond}
 use mathlib.Core.List.{List, [], ◌∷◌, ◌++◌}
-use Rattle.std.specs.Prelude.{Option, None, Some}
 use Prim.Native.Nat.{ℕ, zero, suc, ◌+◌, ◌*◌, ◌/◌, ◌%◌, ◌≤◌, ◌<◌}
 use native.Mathlib.Omega.{arith}
 use lib.Dec.{ltb}
@@ -37,8 +36,7 @@ use Rattle.cues.specs.Cue.{cue_of}
 use Rattle.cue_texts.specs.CueText.{cue_text}
 use Rattle.cue_texts.proofs.Laws.{text_length}
 use Rattle.tables.proofs.Laws.{split}
-use Rattle.std.specs.Prelude.{Result}
-use Rattle.std.specs.Prelude.{Ok as Read, Err as Unread}
+use Rattle.std.specs.Prelude.{Option, None, Some, Result, Ok as Read, Err as Unread}
 use Rattle.refusals.specs.declared.RefusedText.{RefusedText}
 use Rattle.scripts.specs.Script.{script_of}
 use Rattle.steps.specs.declared.reading.Step.{Step}

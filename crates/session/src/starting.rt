@@ -1,7 +1,6 @@
 // The start of a session: the store opened with the start script of the input; or the line that says why it is not.
-ghost use Rattle.std.specs.Prelude.{◌≡◌, ◌≤◌, length};
-ghost use Rattle.buffers.specs.Put.{Put};
-ghost use Rattle.store.specs.Sized.{Sized};
+ghost use Rattle.std.specs.Prelude.{◌≡◌, length};
+ghost use Rattle.buffers.specs.Written.{written_at};
 ghost use Rattle.session.specs.Output.{start_refused};
 ghost use Rattle.session.specs.Started.{Started};
 
@@ -9,21 +8,15 @@ use digits::digit_count;
 use inputs::{find_steps, steps_from};
 use records::write_record;
 use refusals::{Refusal, RefusedText};
-use store::open;
+use store::Store;
 
 // The most bytes that an input may have.
 const LIMIT: usize = 65536;
 
-// Opens the store of an input's start script in words of any contents: the place of the input where the step list
-// begins; or the row that the input meets, with the line that meets it, 0 for the byte limit.
-pub fn start_session(
-    script: &mut [u64; 257],
-    queue: &mut [u64; 65],
-    ts: &mut [[u64; 64]; 8],
-    input: &[u8],
-) -> Result<usize, RefusedText>
-    requires { Sized script.old queue.old ts.old }
-    ensures { Started script.new queue.new ts.new input.now result }
+// Opens the store of an input's start script: the place of the input where the step list begins; or the row that the
+// input meets, with the line that meets it, 0 for the byte limit.
+pub fn start_session(store: &mut Store, input: &[u8]) -> Result<usize, RefusedText>
+    ensures { Started store.new input.now result }
 {
     if LIMIT < input.len() {
         return Err(RefusedText {
@@ -32,26 +25,26 @@ pub fn start_session(
         });
     }
     let at = find_steps(input);
-    open(script, queue, ts, &input[..at])?;
+    store.open(&input[..at])?;
     Ok(steps_from(input, at))
 }
 
-// Puts the line `start,n,line` of a refused start to the front of the buffer, where it fits.
-pub fn put_refused(buf: &mut [u8], refused: RefusedText) -> usize
-    requires { length (start_refused refused.refusal refused.line) ≤ length buf.old }
-    ensures { Put buf.old 0 (start_refused refused.refusal refused.line) result buf.new }
+// Writes the line `start,n,line` of a refused start to the front of the buffer, if it fits there.
+pub fn write_refused(buf: &mut [u8], refused: RefusedText) -> Result<usize, Refusal>
+    ensures { (result, buf.new) ≡ written_at buf.old 0 (start_refused refused.refusal refused.line) }
 {
-    let number = refused.refusal.number();
-    let Ok(end) = write_record(buf, 0, b"start", number, refused.line as u64) else {
-        return 0;
-    };
-    end
+    write_record(
+        buf,
+        0,
+        b"start",
+        refused.refusal.number(),
+        refused.line as u64,
+    )
 }
 
 // How many bytes that line has.
 pub fn refused_length(refused: RefusedText) -> usize
     ensures { result ≡ length (start_refused refused.refusal refused.line) }
 {
-    let number = refused.refusal.number();
-    8 + digit_count(number) + digit_count(refused.line as u64)
+    8 + digit_count(refused.refusal.number()) + digit_count(refused.line as u64)
 }

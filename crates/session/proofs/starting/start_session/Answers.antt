@@ -1,4 +1,4 @@
--- `session::starting::start_session` meets its contract: in each case the text that is left to print is the output.
+-- In each case the text that is left to print is the output.
 use Rattle.std.proofs.Common.{ap, arith, Err, length, ◌≤◌, ◌∙◌}
 use Rattle.std.proofs.lemmas.Result.{err_from_is_err_and}
 use Rattle.inputs.proofs.Division.{list_part, start_part}
@@ -15,7 +15,7 @@ returns-in_err-open c =
     let p = err_from_is_err_and c.from_residual.result c.from_residual.ensures.1 in
     rw (p.1 ∙ ap Err p.2)
     (output_refused s _ c.in_err-open.field-0.0 h (start_part s c.find_steps-at.result c.find_steps-at.ensures)
-    c.in_err-open.ensures.answers)
+    c.in_err-open.ensures.answer)
 
 pub returns : goal.returns
 returns c = grind (arith, start_part, list_part, output_run)
