@@ -1,4 +1,4 @@
--- Whole inputs and outputs of the program, computed: the printed run, and one for each odd shape of an input.
+-- Whole inputs and outputs of the program, computed: document 01's, and one for each odd shape of an input.
 -- Assumes nothing.
 use Prim.Native.Nat.{ℕ}
 use mathlib.Core.Path.{◌≡◌, refl}
@@ -13,6 +13,7 @@ use Rattle.cue_texts.specs.CueText.{cue_text}
 use Rattle.tables.specs.Table.{member_of, insert_of, delete_of, put_once_of}
 use Rattle.scripts.specs.Script.{read_from, script_of}
 use Rattle.scripts.specs.ScriptText.{text_of}
+use Rattle.same_bytes.specs.Same.{same}
 use Rattle.step_words.specs.Word.{word_of}
 use Rattle.answers.specs.Answer.{refusal_text}
 use Rattle.boosting.specs.Object.{effect, reply}
@@ -31,7 +32,7 @@ use Rattle.session.specs.Output.{answers_text, run_text, output_of}
 -- an input, and its output
 abbrev pub examples : List (List ℕ × List ℕ)
 examples =
-    -- the printed run
+    -- document 01's
     (
       bytes "1500,4,12\n1500,2,7\nsteps\nbegin,1\nbegin,2\nadd,1,1500,2,9\nadd,2,1500,2,9\npush,2,900,1,1\n"
           ++ bytes "push,1,900,1,1\nremove,2,1500,4,12\ncommit,1\nmin,2\nundo,2\nback,2\n",
@@ -52,7 +53,7 @@ examples =
 pub examples_hold :
     map (λ (e : List ℕ × List ℕ). output_of e.0) examples ≡ map (λ (e : List ℕ × List ℕ). e.1) examples
 unfolding up_to onto lines_of digits_at value_from number_of record_text fields_of cue_text member_of insert_of delete_of
-    put_once_of read_from script_of text_of word_of refusal_text effect reply entry_of inverse lock_of no_locks
+    put_once_of read_from script_of text_of same word_of refusal_text effect reply entry_of inverse lock_of no_locks
     hold conflicts closed_transaction open_transaction started opened transaction put blocker reserved_by
     reserved_in takes_by takes_in first_met refusal_of accept perform step_on step_line advance run_from roll_backs
     recover_one recover rising steps_place start_text step_list answers_text closing_text run_text output_of

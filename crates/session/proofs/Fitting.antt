@@ -2,8 +2,6 @@
 use mathlib.Core.Path.{◌≡◌, refl, ap, ◌∙◌}
 use mathlib.Core.Bool.{Bool, true, false, cond}
 use mathlib.Core.List.{List, [], ◌∷◌, ◌++◌}
-use mathlib.Core.Logic.{◌⊎◌, inl, inr}
-use mathlib.Core.Option.{Option, none, some}
 use Prim.Native.Nat.{ℕ, zero, suc, ◌+◌, ◌*◌, ◌/◌, ◌%◌, ◌≤◌, ◌<◌}
 use native.Mathlib.Omega.{arith}
 use lib.Dec.{ltb}
@@ -38,11 +36,11 @@ use Rattle.cues.specs.Cue.{cue_of}
 use Rattle.cue_texts.specs.CueText.{cue_text}
 use Rattle.cue_texts.proofs.Laws.{text_length}
 use Rattle.tables.proofs.Laws.{split}
-use Rattle.scripts.specs.declared.reading.Outcome.{Outcome}
-use Rattle.scripts.specs.declared.reading.Outcome.TheVariants.{Accepted, Refused as RefusedText}
+use Rattle.std.specs.Prelude.{Option, None, Some, Result, Ok as Read, Err as Unread}
+use Rattle.refusals.specs.declared.RefusedText.{RefusedText}
 use Rattle.scripts.specs.Script.{script_of}
 use Rattle.steps.specs.declared.reading.Step.{Step}
-use Rattle.steps.specs.declared.reading.Step.TheVariants.{WithNumber, WithCue, Malformed}
+use Rattle.steps.specs.declared.reading.Step.TheVariants.{WithNumber, WithCue}
 use Rattle.step_words.specs.declared.NumberWord.{NumberWord}
 use Rattle.step_words.specs.declared.NumberWord.TheVariants.{Begin, Min, Take, Commit, Undo, Back}
 use Rattle.step_words.specs.declared.CueWord.{CueWord}
@@ -64,8 +62,6 @@ use Rattle.boosting.specs.Rows.{
   roll_back,
   call,
   Request,
-  malformed,
-  request,
   request_of,
   refusal_of,
 }
@@ -158,22 +154,18 @@ performed_at_most d e (call b c) = reply_at_most (reply c d.state)
 
 decided_at_most : (o : Option Refusal) (d : Store) (e : ℕ) (a : Action)
     → length (answer_text (decided o d e a).answer) ≤ 40
-decided_at_most (some r) d e a = refusal_at_most r
-decided_at_most none d e a = performed_at_most d e a
+decided_at_most (Some r) d e a = refusal_at_most r
+decided_at_most None d e a = performed_at_most d e a
 
-stepped_at_most : (d : Store) (q : Request) → length (answer_text (step_on d q).answer) ≤ 40
+stepped_at_most : (d : Store) (q : Option Request) → length (answer_text (step_on d q).answer) ≤ 40
 unfolding step_on
-stepped_at_most d malformed = refusal_at_most MalformedLine
-stepped_at_most d (request e a) = decided_at_most (refusal_of d (request e a)) d e a
+stepped_at_most d None = refusal_at_most MalformedLine
+stepped_at_most d (Some q) = decided_at_most (refusal_of d (Some q)) d q.transaction q.action
 
 -- every answer line is short
 pub line_at_most : (d : Store) (l : List ℕ) → length (answer_text (step_line d l).answer) ≤ 40
 unfolding step_line
 line_at_most d l = stepped_at_most d (request_of (step_of l))
-
--- a line that is a step has four bytes and more
-abbrev IsStep : Step → Type 0
-IsStep s = (s ≡ Malformed → ⊥) × (4 ≤ length (step_text s))
 
 number_word_long : (w : NumberWord) → 3 ≤ length (number_word w)
 number_word_long Begin = omega arith
@@ -189,29 +181,26 @@ cue_word_long Remove = omega arith
 cue_word_long Has = omega arith
 cue_word_long Push = omega arith
 
-step_or_not : (s : Step) → (s ≡ Malformed) ⊎ IsStep s
-step_or_not (WithNumber w e) =
-    inr ((λ q. let z : ◌≡◌ {A = ℕ} 0 1 = cc in omega arith), simp length-append (omega (arith, number_word_long w)))
-step_or_not (WithCue w e c) =
-    inr ((λ q. let z : ◌≡◌ {A = ℕ} 0 1 = cc in omega arith), simp length-append (omega (arith, cue_word_long w)))
-step_or_not Malformed = inl refl
+-- a line that is a step has four bytes and more
+step_long : (s : Step) → 4 ≤ length (step_text s)
+step_long (WithNumber w e) = simp length-append (omega (arith, number_word_long w))
+step_long (WithCue w e c) = simp length-append (omega (arith, cue_word_long w))
 
-malformed_answer : (d : Store) (l : List ℕ) → step_of l ≡ Malformed → length (answer_text (step_line d l).answer) ≡ 10
-unfolding step_line step_on refusal_text digits_at
-malformed_answer d l e = rw e
+malformed_answer : (d : Store) → length (answer_text (step_on d (request_of None)).answer) ≡ 10
+unfolding step_on refusal_text digits_at
+malformed_answer d = refl
 
 -- ten bytes for each byte of a line, or for the LF of an empty one
 answer_at_most : (d : Store) (l : List ℕ) (n : ℕ) → length l ≤ n → 1 ≤ n
     → length (answer_text (step_line d l).answer) ≤ 10 * n
 unfolding step_line
-answer_at_most d l n h p = by_case (step_or_not (step_of l))
+answer_at_most d l n h p = by_case (step_of l) refl
   where
-    by_case : (step_of l ≡ Malformed) ⊎ IsStep (step_of l)
-        → length (answer_text (step_on d (request_of (step_of l))).answer) ≤ 10 * n
-    by_case (inl e) = omega (arith, malformed_answer d l e)
-    by_case (inr s) =
-        let t = ap length (step_read_is_canonical l (step_of l) refl s.0).0 in
-        omega (arith, t, s.1, stepped_at_most d (request_of (step_of l)))
+    by_case : (s : Option Step) → step_of l ≡ s → length (answer_text (step_on d (request_of s)).answer) ≤ 10 * n
+    by_case None e = omega (arith, malformed_answer d)
+    by_case (Some s) e =
+        let t = ap length (step_read_is_canonical l s e).0 in
+        omega (arith, t, step_long s, stepped_at_most d (request_of (Some s)))
 
 -- ---- the answers of a text
 abbrev AnswersFit : List ℕ → Type 0
@@ -276,10 +265,11 @@ unfolding output_of
 output_fits s =
     split (ltb 65536 (length s))
     (λ t. rw t (refused_fits TextTooLong 0))
-    (λ t. rw t (by_outcome (script_of (start_text s)).0 (ltb-false _ _ t)))
+    (λ t. rw t (by_read (script_of (start_text s)) refl (ltb-false _ _ t)))
   where
-    by_outcome : (o : Outcome) → length s ≤ 65536
-        → length (output_with o (script_of (start_text s)).1 (lines_of (step_list s))) ≤ room
-    by_outcome (RefusedText r line) h = refused_fits r line
-    by_outcome Accepted h =
-        run_fits (opened (script_of (start_text s)).1) (step_list s) (opened_is_sound (start_text s)) (step_list_short s h)
+    by_read : (r : Result (List ℕ) RefusedText) → script_of (start_text s) ≡ r → length s ≤ 65536
+        → length (output_with r (lines_of (step_list s))) ≤ room
+    by_read (Unread why) e h = refused_fits why.refusal why.line
+    by_read (Read script) e h =
+        let sound : Sound (opened script) = rw e at (opened_is_sound (start_text s)) in
+        run_fits (opened script) (step_list s) sound (step_list_short s h)

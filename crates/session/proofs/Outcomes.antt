@@ -1,5 +1,5 @@
 -- What is printed, by the outcome of the start text. Assumes nothing.
-use mathlib.Core.Path.{◌≡◌, sym, ap, ◌∙◌}
+use mathlib.Core.Path.{◌≡◌, refl, sym, ap, ◌∙◌}
 use mathlib.Core.List.{List, ◌++◌}
 use Prim.Native.Nat.{ℕ, ◌+◌, ◌-◌, ◌≤◌, ◌<◌}
 use native.Mathlib.Omega.{arith}
@@ -13,20 +13,23 @@ use Rattle.lines.specs.Ascii.{bytes}
 use Rattle.lines.specs.Lines.{lines_of}
 use Rattle.digits.specs.Digits.{digits_of}
 use Rattle.records.specs.Record.{record_text}
-use Rattle.scripts.specs.declared.reading.Outcome.{Outcome}
-use Rattle.scripts.specs.declared.reading.Outcome.TheVariants.{Accepted, Refused}
-use Rattle.scripts.specs.Script.{script_of}
+use Rattle.std.specs.Prelude.{Result, Ok, Err}
+use Rattle.buffers.specs.Put.{Put}
+use Rattle.buffers.specs.Written.{written_at}
+use Rattle.buffers.proofs.Laws.{written, written_back}
+use Rattle.buffers.proofs.Puts.{rest_fits, rest_ends, rest_stored}
+use Rattle.std.specs.Result.{IsOk}
+use Rattle.refusals.specs.declared.RefusedText.{RefusedText}
+use Rattle.scripts.specs.Script.{script_of, script_or_empty}
 use Rattle.boosting.specs.Object.{State}
 use Rattle.boosting.specs.Store.{Store, opened}
 use Rattle.boosting.specs.Run.{run}
 use Rattle.boosting.specs.Recovery.{recover, rising}
-use Rattle.store_words.specs.Words.{store_of}
 use Rattle.inputs.specs.Division.{start_text, step_list}
 use Rattle.closing_lists.specs.Closing.{closing_text}
-use Rattle.session.specs.declared.starting.Start.{Start}
-use Rattle.session.specs.declared.starting.Start.TheVariants.{Steps, Refused as RefusedStart}
-use Rattle.session.specs.Output.{answer_lines, recovered, run_text, start_refused, output_of}
-use Rattle.session.specs.Started.{Running, Started}
+use Rattle.store.specs.Answering.{opening}
+use Rattle.session.specs.Output.{answer_lines, recovered, run_text, start_refused, output_with, output_of}
+use Rattle.session.specs.Started.{Running}
 use Rattle.session.proofs.Fitting.{run_length, refused_length}
 
 -- ---- the three cases
@@ -34,43 +37,47 @@ pub output_long : (s : List ℕ) → 65536 < length s → start_refused TextTooL
 unfolding output_of
 output_long s h = rw (lt-ltb _ _ h)
 
-pub output_refused : (s start : List ℕ) (o : Outcome) (r : Refusal) (line : ℕ) → length s ≤ 65536
-    → start ≡ start_text s → o ≡ (script_of start).0 → o ≡ Refused r line → start_refused r line ≡ output_of s
+pub output_refused : (s start : List ℕ) (why : RefusedText) → length s ≤ 65536 → start ≡ start_text s
+    → Err why ≡ opening (script_of start) → start_refused why.refusal why.line ≡ output_of s
 unfolding output_of
-output_refused s start o r line h es eo e =
-    let q : (script_of (start_text s)).0 ≡ Refused r line = rw (← es) (sym eo ∙ e) in
-    rw (le-ltb _ _ h, q)
+output_refused s start why h es e = rw (le-ltb _ _ h, ← es) (by_script (script_of start) e)
+  where
+    by_script : (r : Result (List ℕ) RefusedText) → Err why ≡ opening r
+        → start_refused why.refusal why.line ≡ output_with r (lines_of (step_list s))
+    by_script (Err w) q =
+        let p : why ≡ w = cc in
+        ap (λ (x : RefusedText). start_refused x.refusal x.line) p
+    by_script (Ok t) q = let z : ◌≡◌ {A = ℕ} 0 1 = cc in absurd (omega arith)
 
-pub output_accepted : (s : List ℕ) → length s ≤ 65536 → (script_of (start_text s)).0 ≡ Accepted
-    → output_of s ≡ run_text (opened (script_of (start_text s)).1) (lines_of (step_list s))
+pub output_accepted : (s : List ℕ) → length s ≤ 65536 → IsOk (script_of (start_text s))
+    → output_of s ≡ run_text (opened (script_or_empty (script_of (start_text s)))) (lines_of (step_list s))
 unfolding output_of
-output_accepted s h e = rw (le-ltb _ _ h, e)
+output_accepted s h e = rw (le-ltb _ _ h) (by_script (script_of (start_text s)) e)
+  where
+    by_script : (r : Result (List ℕ) RefusedText) → IsOk r
+        → output_with r (lines_of (step_list s)) ≡ run_text (opened (script_or_empty r)) (lines_of (step_list s))
+    by_script (Ok t) q = refl
+    by_script (Err w) q = let z : ◌≡◌ {A = ℕ} 0 1 = cc in absurd (omega arith)
 
 -- the parts of the input and the store opened, as the code has them
-pub output_run : (s start steps : List ℕ) (o : Outcome) (d : Store) → length s ≤ 65536 → start ≡ start_text s
-    → steps ≡ step_list s → o ≡ (script_of start).0 → o ≡ Accepted → d ≡ opened (script_of start).1
+pub output_run : (s start steps : List ℕ) (d : Store) → length s ≤ 65536 → start ≡ start_text s
+    → steps ≡ step_list s → Ok tt ≡ opening (script_of start) → d ≡ opened (script_or_empty (script_of start))
     → run_text d (lines_of steps) ≡ output_of s
-output_run s start steps o d h es et eo e ed =
-    let q : (script_of (start_text s)).0 ≡ Accepted = rw (← es) (sym eo ∙ e) in
+output_run s start steps d h es et e ed =
+    let q : IsOk (script_of (start_text s)) = rw (← es) (is_accepted (script_of start) e) in
     rw (ed, es, et) (sym (output_accepted s h q))
+  where
+    is_accepted : (r : Result (List ℕ) RefusedText) → Ok tt ≡ opening r → IsOk r
+    is_accepted (Ok t) q = refl
+    is_accepted (Err w) q = let z : ◌≡◌ {A = ℕ} 0 1 = cc in absurd (omega arith)
 
 -- ---- the start of a session
--- what its answer says, by cases
-pub starts_refused : (s q : List ℕ) (ts : List (List ℕ)) (input : List ℕ) (x : Start) (r : Refusal) (line : ℕ)
-    → x ≡ RefusedStart r line → Started s q ts input x → start_refused r line ≡ output_of input
-starts_refused s q ts input x r line e h = rw e at h
-
-pub starts_running : (s q : List ℕ) (ts : List (List ℕ)) (input : List ℕ) (x : Start) (from : ℕ)
-    → x ≡ Steps from → Started s q ts input x → Running s q ts input from
-starts_running s q ts input x from e h = rw e at h
-
 -- the step list, as the code cuts it out
-pub part_prints : (s q : List ℕ) (ts : List (List ℕ)) (input : List ℕ) (from : ℕ) → Running s q ts input from
-    → run_text (store_of s q ts) (lines_of (take (length input - from) (drop from input))) ≡ output_of input
-part_prints s q ts input from v =
+pub part_prints : (d : Store) (input : List ℕ) (from : ℕ) → Running d input from
+    → run_text d (lines_of (take (length input - from) (drop from input))) ≡ output_of input
+part_prints d input from v =
     let n : length (drop from input) ≤ length input - from = omega (arith, length-drop from input) in
-    ap (λ (x : List ℕ). run_text (store_of s q ts) (lines_of x)) (take_all (length input - from) (drop from input) n)
-    ∙ v.prints
+    ap (λ (x : List ℕ). run_text d (lines_of x)) (take_all (length input - from) (drop from input) n) ∙ v.prints
 
 -- ---- the refused start
 pub refused_text : (r : Refusal) (line n : ℕ) → n ≡ refusal_number r
@@ -100,3 +107,15 @@ pub run_counted : (d d₁ d₂ : Store) (ls : List (List ℕ)) (m n : ℕ) → d
 run_counted d d₁ d₂ ls m n e₁ e₂ em en =
     let q = ap (λ (x : State). length (closing_text x)) (recovered-state d d₁ d₂ ls e₁ e₂) in
     omega (arith, run_length d ls, q)
+
+-- a writer of the closing lists behind the answers gives the whole
+pub written_behind : (buf mid after u v all : List ℕ) (r : Result ℕ Refusal) (middle : ℕ) → all ≡ u ++ v
+    → length all ≤ length buf → Put buf 0 u middle mid → (r, after) ≡ written_at mid middle v
+    → (r, after) ≡ written_at buf 0 all
+written_behind buf mid after u v all r middle q h p w =
+    let n : 0 + length all ≤ length buf = omega arith in
+    let b = written_back r mid after v middle (rest_fits buf u v all 0 q mid middle p n) w in
+    let d : (Ok (middle + length v), after) ≡ written_at buf 0 all =
+    written buf after all 0 (middle + length v) n (rest_ends buf u v all 0 q mid middle p)
+    (b.1 ∙ rest_stored buf u v all 0 q mid middle p) in
+    (λ i. (b.0 i, after)) ∙ d

@@ -11,6 +11,7 @@ use Rattle.buffers.proofs.Puts.{Put-room}
 use Rattle.lines.specs.Lines.{up_to, lines_of}
 use Rattle.steps.specs.Step.{step_of}
 use Rattle.steps.specs.declared.reading.Step.{Step}
+use Rattle.std.specs.Prelude.{Option}
 use Rattle.answers.specs.Answer.{answer_text}
 use Rattle.answers.specs.declared.Answer.{Answer}
 use Rattle.boosting.specs.Store.{Store}
@@ -34,9 +35,9 @@ use Rattle.session.proofs.Answers.{
 use Rattle.session.proofs.Fitting.{line_at_most, answers_fit}
 
 -- a step that was read from a line does what the line does
-pub as_the_line : (d : Store) (x : Step) (line : List ℕ) → x ≡ step_of line → step_on d (request_of x) ≡ step_line d line
+pub as_the_line : (d : Store) (x : Option Step) (line : List ℕ) → x ≡ step_of line → step_on d (request_of x) ≡ step_line d line
 unfolding step_line
-as_the_line d x line e = ap (λ (y : Step). step_on d (request_of y)) e
+as_the_line d x line e = ap (λ (y : Option Step). step_on d (request_of y)) e
 
 -- how far the loop is: so many bytes of answers, at this place of the text
 abbrev pub Passing : Bool → List ℕ → List ℕ → List ℕ → Store → Store → ℕ → ℕ → Type 0

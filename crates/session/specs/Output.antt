@@ -1,14 +1,13 @@
 -- What the program prints: one answer line a step, and after recovery the script and the queue; or why it does not
 -- start. Assumes nothing.
-use Rattle.std.specs.Prelude.{ℕ, if◌then◌else◌, List, [], ◌∷◌, ◌++◌, nat_lt, length}
+use Rattle.std.specs.Prelude.{ℕ, if◌then◌else◌, List, [], ◌∷◌, ◌++◌, nat_lt, length, Result, Ok, Err}
 use Rattle.refusals.specs.Refusal.{refusal_number}
 use Rattle.refusals.specs.declared.Refusal.{Refusal}
 use Rattle.refusals.specs.declared.Refusal.TheVariants.{TextTooLong}
 use Rattle.lines.specs.Ascii.{bytes}
 use Rattle.lines.specs.Lines.{lines_of}
 use Rattle.records.specs.Record.{record_text}
-use Rattle.scripts.specs.declared.reading.Outcome.{Outcome}
-use Rattle.scripts.specs.declared.reading.Outcome.TheVariants.{Accepted, Refused}
+use Rattle.refusals.specs.declared.RefusedText.{RefusedText}
 use Rattle.scripts.specs.Script.{script_of}
 use Rattle.answers.specs.Answer.{answer_text}
 use Rattle.answers.specs.declared.Answer.{Answer}
@@ -39,12 +38,12 @@ abbrev pub start_refused : Refusal → ℕ → List ℕ
 start_refused r line = record_text (bytes "start") (refusal_number r) line
 
 -- a refused start prints only its row and its line
-abbrev pub output_with : Outcome → List ℕ → List (List ℕ) → List ℕ
-output_with (Refused r line) script lines = start_refused r line
-output_with Accepted script lines = run_text (opened script) lines
+abbrev pub output_with : Result (List ℕ) RefusedText → List (List ℕ) → List ℕ
+output_with (Err why) lines = start_refused why.refusal why.line
+output_with (Ok script) lines = run_text (opened script) lines
 
 -- an input of more than 65,536 bytes prints only `start,13,0`
 unfoldable pub output_of : List ℕ → List ℕ
 output_of s =
     if nat_lt 65536 (length s) then start_refused TextTooLong 0
-    else output_with (script_of (start_text s)).0 (script_of (start_text s)).1 (lines_of (step_list s))
+    else output_with (script_of (start_text s)) (lines_of (step_list s))

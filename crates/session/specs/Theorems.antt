@@ -1,8 +1,8 @@
 -- What holds of the program's output; proved in `proofs/Theorems.antt`. Assumes nothing.
 use Rattle.std.specs.Prelude.{ℕ, ◌≤◌, ◌≡◌, List, ◌++◌, length}
 use Rattle.lines.specs.Lines.{lines_of}
-use Rattle.scripts.specs.declared.reading.Outcome.TheVariants.{Accepted}
-use Rattle.scripts.specs.Script.{script_of}
+use Rattle.std.specs.Result.{IsOk}
+use Rattle.scripts.specs.Script.{script_of, script_or_empty}
 use Rattle.boosting.specs.Store.{started, opened}
 use Rattle.boosting.specs.Run.{Event, run}
 use Rattle.boosting.specs.Replay.{replay, replies, fed, heard}
@@ -25,7 +25,7 @@ OutputFits = (s : List ℕ) → length (output_of s) ≤ room
 
 -- ---- term 3 on the bytes: the lists printed are the replay's, and so are the answers that it is fed
 abbrev pub start_script : List ℕ → List ℕ
-start_script s = (script_of (start_text s)).1
+start_script s = script_or_empty (script_of (start_text s))
 
 abbrev pub past_of : List ℕ → List Event
 past_of s = (run (opened (start_script s)) (lines_of (step_list s))).past
@@ -37,4 +37,4 @@ pub record Replayed (s : List ℕ) : Type 0 where
   pub answers : heard (past_of s) ≡ replies (started (start_script s)) (fed (past_of s))
 
 abbrev pub ClosingIsReplay : Type 0
-ClosingIsReplay = (s : List ℕ) → length s ≤ 65536 → (script_of (start_text s)).0 ≡ Accepted → Replayed s
+ClosingIsReplay = (s : List ℕ) → length s ≤ 65536 → IsOk (script_of (start_text s)) → Replayed s

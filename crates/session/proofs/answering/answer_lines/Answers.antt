@@ -20,7 +20,6 @@ use Rattle.buffers.specs.Put.{Put}
 use Rattle.answers.specs.Answer.{answer_text}
 use Rattle.boosting.specs.Step.{Out, step_line}
 use Rattle.short_answers.proofs.ShortLines.{appended_put}
-use Rattle.store_words.specs.Words.{store_of}
 use Rattle.session.proofs.Passing.{Passing-all, Passing-more, as_the_line, bounds, line_room, sum_fits}
 use Rattle.session.proofs.answering.answer_lines.Goals as goal
 use Rattle.session.proofs.answering.answer_lines.Goals.{After-append_answer}
@@ -28,14 +27,14 @@ use Rattle.session.proofs.answering.answer_lines.Goals.{After-append_answer}
 -- what the step does and answers is what its line does
 lined : (c : After-append_answer) →
     let l = c.loop-at in
-    let q = step_line (store_of l.script l.queue l.ts)
+    let q = step_line l.store
     (take (c.scan_step-scanned.result.end - l.at) (drop l.at c.args.text.now)) in
-    (store_of c.execute-answer.new.script c.execute-answer.new.queue c.execute-answer.new.ts ≡ q.store)
+    (c.execute-answer.new.self ≡ q.store)
     × (c.execute-answer.result ≡ q.answer)
 lined c =
     let l = c.loop-at in
     let r = c.scan_step-scanned in
-    let e = as_the_line (store_of l.script l.queue l.ts) r.result.step _ r.ensures.step in (
+    let e = as_the_line l.store r.result.step _ r.ensures.step in (
       c.execute-answer.ensures.store ∙ ap (λ (o : Out). o.store) e,
       c.execute-answer.ensures.answer ∙ ap (λ (o : Out). o.answer) e,
     )
@@ -47,9 +46,9 @@ fits c =
     let a = c.args in
     let l = c.loop-at in
     let r = c.scan_step-scanned in
-    line_room a.text.now _ (store_of l.script l.queue l.ts) l.sum l.at r.result.end
+    line_room a.text.now _ l.store l.sum l.at r.result.end
     c.loop-at-test.true r.ensures.end _ c.execute-answer.result (lined c).0 (lined c).1
-    a.keep a.buf.now l.buf _ l.invariant.1 c.requires.room_for c.place_of-place.ensures
+    a.keep a.buf.now l.buf _ l.invariant.0 c.requires c.place_of-place.ensures
 
 -- the answer line stands there
 written : (c : After-append_answer) →
@@ -74,11 +73,11 @@ overflow_add-sum c =
     let a = c.args in
     let l = c.loop-at in
     let r = c.scan_step-scanned in
-    let b : length l.buf < 18446744073709551616 = omega (arith, l.invariant.3) in
+    let b : length l.buf < 18446744073709551616 = omega (arith, l.invariant.2) in
     let n = sum_small l.sum c.place_of-place.result _ (length l.buf) _ (written w).place b
-    (sum_fits a.text.now _ (store_of l.script l.queue l.ts) l.sum l.at r.result.end
+    (sum_fits a.text.now _ l.store l.sum l.at r.result.end
     c.loop-at-test.true r.ensures.end _ c.execute-answer.result (lined w).0 (lined w).1
-    a.keep a.buf.now l.buf l.invariant.1 c.requires.room_for) in
+    a.keep a.buf.now l.buf l.invariant.0 c.requires) in
     omega (arith, n)
 
 pub loop-at-preserved : goal.loop-at-preserved
@@ -87,17 +86,17 @@ loop-at-preserved c =
     let a = c.args in
     let l = c.loop-at in
     let r = c.scan_step-scanned in
-    let v = Passing-more a.text.now _ (store_of l.script l.queue l.ts) l.sum l.at
+    let v = Passing-more a.text.now _ l.store l.sum l.at
     r.result.end c.loop-at-test.true r.ensures.end _ c.execute-answer.result (lined w).0 (lined w).1
-    a.keep a.buf.now l.buf c.append_answer.new.buf _ _ l.invariant.1 c.place_of-place.ensures
+    a.keep a.buf.now l.buf c.append_answer.new.buf _ _ l.invariant.0 c.place_of-place.ensures
     (written w) in
     let b = bounds a.keep _ _ _ _ _ _ _ v in
-    (c.execute-answer.ensures.fits, v, b.0, b.1)
+    (v, b.0, b.1)
 
 pub returns : goal.returns
 returns c =
     let t = c.args.text.now in
     let h : length t ≤ c.loop-at.at = omega arith in
-    let e = Passing-all c.args.keep c.args.buf.now c.loop-at.buf t _ (store_of c.loop-at.script c.loop-at.queue c.loop-at.ts)
-    c.loop-at.sum c.loop-at.at c.loop-at.invariant.1 h in
-    (e.0, e.1, record { is = e.2; fits = c.loop-at.invariant.0 })
+    let e = Passing-all c.args.keep c.args.buf.now c.loop-at.buf t _ c.loop-at.store
+    c.loop-at.sum c.loop-at.at c.loop-at.invariant.0 h in
+    record { counted = e.0; kept = e.1; stepped = e.2 }
