@@ -1,2 +1,0 @@
--- What the code's replies mean. Assumes nothing.
-pub mod Replies
