@@ -4,7 +4,6 @@
 // One byte more than an input may have is read, so that a longer input is told apart. The output always fits.
 #![tactic(auto)]
 
-use buffers::Written;
 use session::{ROOM, run_session};
 use std::io::{self, Read, Write};
 
@@ -13,7 +12,7 @@ fn run<R: Input + Print + AllocGlobal>(rt: &R, output: &mut [u8]) -> io::Result<
     let mut input = Vec::new(rt.alloc());
     rt.reader().take(65537).read_to_end(&mut input)?;
     let written = run_session(output, &input);
-    if let Written::Upto(end) = written {
+    if let Ok(end) = written {
         io::writer(rt).write_all(&output[..end])?;
     }
     Ok(())

@@ -10,14 +10,14 @@ use Rattle.scripts.specs.Script.{script_of}
 use Rattle.scripts.specs.ScriptText.{text_of}
 
 -- what the writer answered, as the formatter's answer: no line is to blame for a short buffer
-abbrev pub at_no_line : Result ℕ Refusal → Result ℕ RefusedText
-at_no_line (Ok n) = Ok n
-at_no_line (Err r) = Err (record { refusal = r; line = 0 })
+abbrev pub normal : Result ℕ Refusal → Result ℕ RefusedText
+normal (Ok n) = Ok n
+normal (Err r) = Err (record { refusal = r; line = 0 })
 
 -- the normal form at the front of the buffer; or, where the text or the buffer is refused, the buffer as it was
 abbrev pub format_with : Result (List ℕ) RefusedText → List ℕ → Result ℕ RefusedText × List ℕ
-format_with (Ok t) buf = (at_no_line (written_at buf 0 (text_of t)).0, (written_at buf 0 (text_of t)).1)
-format_with (Err why) buf = (Err why, buf)
+format_with (Ok t) buf = (normal (written_at buf 0 (text_of t)).0, (written_at buf 0 (text_of t)).1)
+format_with (Err refused) buf = (Err refused, buf)
 
 unfoldable pub format_of : List ℕ → List ℕ → Result ℕ RefusedText × List ℕ
 format_of s buf = format_with (script_of s) buf
@@ -25,7 +25,7 @@ format_of s buf = format_with (script_of s) buf
 -- what the formatter prints: the normal form, or `refused,n,line` and LF
 abbrev pub report_with : Result (List ℕ) RefusedText → List ℕ
 report_with (Ok t) = text_of t
-report_with (Err why) = record_text (bytes "refused") (refusal_number why.refusal) why.line
+report_with (Err refused) = record_text (bytes "refused") (refusal_number refused.refusal) refused.line
 
 unfoldable pub report_of : List ℕ → List ℕ
 report_of s = report_with (script_of s)

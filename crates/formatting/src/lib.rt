@@ -13,24 +13,32 @@ use refusals::{Refusal, RefusedText};
 use script_texts::write_script;
 use scripts::read_script;
 
-// Reads a script text and writes its normal form to the front of the buffer: how many bytes that has. Refused: the row
-// that the text meets, with the line; or 14 with line 0, where the buffer is too short.
+// Reads a script text and writes its normal form to the front of the buffer: how many bytes it has; or the row that
+// the text meets, with the line; or 14 with line 0, where the buffer is too short.
+#[tactic(auto, unfolding(crate::specs::Format::format_of))]
 pub fn format_script(buf: &mut [u8], text: &[u8]) -> Result<usize, RefusedText>
     ensures { (result, buf.new) ≡ format_of text.now buf.old }
 {
     let script = read_script(text)?;
-    write_script(buf, script).map_err(|refusal| RefusedText { refusal, line: 0 })
+    match write_script(buf, script) {
+        Ok(end) => Ok(end),
+        Err(refusal) => Err(RefusedText { refusal, line: 0 }),
+    }
 }
 
 // Writes what the formatter prints of a text: its normal form, or the line `refused,n,line`.
+#[tactic(auto, unfolding(crate::specs::Format::report_of))]
 pub fn write_report(buf: &mut [u8], text: &[u8]) -> Result<usize, Refusal>
     ensures { (result, buf.new) ≡ written_at buf.old 0 (report_of text.now) }
 {
     match read_script(text) {
         Ok(script) => write_script(buf, script),
-        Err(refused) => {
-            let number = refused.refusal.number();
-            write_record(buf, 0, b"refused", number, refused.line as u64)
-        }
+        Err(refused) => write_record(
+            buf,
+            0,
+            b"refused",
+            refused.refusal.number(),
+            refused.line as u64,
+        ),
     }
 }

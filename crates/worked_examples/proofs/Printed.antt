@@ -6,28 +6,28 @@ use Prim.Native.Nat.{ℕ, ◌+◌}
 use native.Mathlib.Omega.{arith}
 use lib.Dec.{leb}
 use lib.ListN.{length, take, drop}
+use Rattle.std.specs.Prelude.{Result, Ok, Err}
+use Rattle.refusals.specs.declared.Refusal.{Refusal}
 use Rattle.refusals.specs.declared.Refusal.TheVariants.{BufferTooShort}
 use Rattle.buffers.specs.Written.{placed, written_at}
-use Rattle.buffers.specs.declared.Written.{Written}
-use Rattle.buffers.specs.declared.Written.TheVariants.{Upto, Refused}
 
 take_front : (text rest : List ℕ) → take (length text) (text ++ rest) ≡ text
 take_front [] rest = refl
 take_front (x ∷ text) rest = ap (λ (l : List ℕ). x ∷ l) (take_front text rest)
 
-pub printed : (buf mid text : List ℕ) (r : Written) (end : ℕ) → (r, mid) ≡ written_at buf 0 text → r ≡ Upto end
+pub printed : (buf mid text : List ℕ) (r : Result ℕ Refusal) (end : ℕ) → (r, mid) ≡ written_at buf 0 text → r ≡ Ok end
     → take end mid ≡ text
 unfolding written_at
 printed buf mid text r end e q = by_test (leb (0 + length text) (length buf)) e
   where
-    by_test : (b : Bool) → ◌≡◌ {A = Written × List ℕ} (r, mid)
-        (cond b (Upto (0 + length text), placed buf 0 text) (Refused BufferTooShort, buf)) → take end mid ≡ text
+    by_test : (b : Bool) → ◌≡◌ {A = Result ℕ Refusal × List ℕ} (r, mid)
+        (cond b (Ok (0 + length text), placed buf 0 text) (Err BufferTooShort, buf)) → take end mid ≡ text
     by_test true w =
-        let u : Upto end ≡ Upto (0 + length text) = sym q ∙ ap (λ (p : Written × List ℕ). p.0) w in
+        let u : Ok end ≡ Ok (0 + length text) = sym q ∙ ap (λ (p : Result ℕ Refusal × List ℕ). p.0) w in
         let n : end ≡ 0 + length text = cc in
         let m : end ≡ length text = omega arith in
-        rw (ap (λ (p : Written × List ℕ). p.1) w, m) (take_front text (drop (0 + length text) buf))
+        rw (ap (λ (p : Result ℕ Refusal × List ℕ). p.1) w, m) (take_front text (drop (0 + length text) buf))
     by_test false w =
-        let u : Upto end ≡ Refused BufferTooShort = sym q ∙ ap (λ (p : Written × List ℕ). p.0) w in
+        let u : Ok end ≡ Err BufferTooShort = sym q ∙ ap (λ (p : Result ℕ Refusal × List ℕ). p.0) w in
         let z : ◌≡◌ {A = ℕ} 0 1 = cc in
         absurd (omega arith)

@@ -2,7 +2,6 @@
 ghost use Rattle.std.specs.Prelude.{◌≡◌, true, ◌≤◌, length};
 ghost use Rattle.session.specs.Output.{output_of};
 
-use buffers::Written;
 use lines::{LF, find_byte};
 use session::run_session;
 use std::io;
@@ -13,7 +12,7 @@ pub fn gives(input: &[u8], expected: &[u8]) -> bool
 {
     let mut output = [0u8; 4096];
     let written = run_session(&mut output, input);
-    let Written::Upto(end) = written else {
+    let Ok(end) = written else {
         return false;
     };
     &output[..end] == expected

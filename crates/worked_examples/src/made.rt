@@ -2,8 +2,8 @@
 ghost use Rattle.std.specs.Prelude.{◌≤◌};
 
 use crate::cases::{gives, report};
-use formatting::{Formatted, format_script};
-use refusals::refusal_number;
+use formatting::format_script;
+use refusals::Refusal;
 
 // An input of one byte more than an input may have.
 pub fn of_texts<R: Print>(rt: &R) -> u64
@@ -23,9 +23,7 @@ pub fn of_buffers<R: Print>(rt: &R) -> u64
 {
     let mut buf = [b'-'; 5];
     let formatted = format_script(&mut buf, b"0,1,1");
-    let mut right = false;
-    if let Formatted::Refused(refusal, _) = formatted {
-        right = refusal_number(refusal) == 14 && buf == *b"-----";
-    }
+    let too_short = formatted.map_err(|refused| refused.refusal) == Err(Refusal::BufferTooShort);
+    let right = too_short && buf == *b"-----";
     report(rt, b" 14: room of 5 for 6 bytes", right)
 }

@@ -7,11 +7,11 @@ use Rattle.cue_desk.proofs.run.Goals as goal
 pub slice_bounds-write_all-end : goal.slice_bounds-write_all-end
 slice_bounds-write_all-end g c =
     let w = c.run_session-written in
-    let h = within _ _ _ w.result 0 _ w.ensures c.in-Upto.is in
-    omega (arith, h, w.auto.buf, length-take-le c.in-Upto.end w.new.buf (omega (arith, h, w.auto.buf)))
+    let h = within _ _ _ w.result 0 _ w.ensures c.in-Ok.is in
+    omega (arith, h, w.auto.buf, length-take-le c.in-Ok.end w.new.buf (omega (arith, h, w.auto.buf)))
 
-pub slice_bounds-write_all-end-in-Upto : goal.slice_bounds-write_all-end-in-Upto
-slice_bounds-write_all-end-in-Upto g c =
+pub slice_bounds-write_all-end-in-Ok : goal.slice_bounds-write_all-end-in-Ok
+slice_bounds-write_all-end-in-Ok g c =
     let w = c.run_session-written in
-    let h = within _ _ _ w.result 0 _ w.ensures c.in-Upto.is in
-    omega (arith, h, w.auto.buf, length-take-le c.in-Upto.end w.new.buf (omega (arith, h, w.auto.buf)))
+    let h = within _ _ _ w.result 0 _ w.ensures c.in-Ok.is in
+    omega (arith, h, w.auto.buf, length-take-le c.in-Ok.end w.new.buf (omega (arith, h, w.auto.buf)))

@@ -9,15 +9,15 @@ use Rattle.worked_examples.proofs.cases.gives.Goals as goal
 pub slice_bounds-output-end : goal.slice_bounds-output-end
 slice_bounds-output-end c =
     let w = c.run_session-written in
-    omega (arith, within _ _ _ w.result 0 _ w.ensures c.in-Upto.is, w.auto.buf)
+    omega (arith, within _ _ _ w.result 0 _ w.ensures c.in-Ok.is, w.auto.buf)
 
 pub slice_bounds-eq-end : goal.slice_bounds-eq-end
 slice_bounds-eq-end c =
     let w = c.run_session-written in
-    sym (length-take-le _ _ (omega (arith, within _ _ _ w.result 0 _ w.ensures c.in-Upto.is, w.auto.buf)))
+    sym (length-take-le _ _ (omega (arith, within _ _ _ w.result 0 _ w.ensures c.in-Ok.is, w.auto.buf)))
 
 pub returns : goal.returns
 returns c =
     λ right.
     let w = c.run_session-written in
-    sym (printed _ _ _ w.result _ w.ensures c.in-Upto.is) ∙ (bytes_decides _ _).0 (sym c.eq.ensures ∙ right)
+    sym (printed _ _ _ w.result _ w.ensures c.in-Ok.is) ∙ (bytes_decides _ _).0 (sym c.eq.ensures ∙ right)

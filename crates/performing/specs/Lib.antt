@@ -1,2 +1,0 @@
--- What a call leaves in its transaction. Assumes nothing.
-pub mod Entered

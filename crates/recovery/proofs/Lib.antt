@@ -1,2 +1,0 @@
--- Laws of recovery; the folders beside this file hold the proofs of the functions. Assumes nothing.
-pub mod Recovering

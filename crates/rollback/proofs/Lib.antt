@@ -1,2 +1,0 @@
--- Laws of a rollback step on the whole store.
-pub mod RolledBack

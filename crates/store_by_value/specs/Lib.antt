@@ -1,2 +1,0 @@
--- What a value holds, and what a step gives.
-pub mod Values

@@ -1,2 +1,0 @@
--- Laws of counted tables, written; the folders beside them hold the proofs of the functions. Assumes nothing.
-pub mod Written
