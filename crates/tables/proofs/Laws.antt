@@ -1,15 +1,12 @@
 -- Laws of the sorted lists of specs/Table. Assumes nothing.
 use mathlib.Core.Path.{◌≡◌, refl, ap, sym, ◌∙◌}
 use mathlib.Core.Bool.{Bool, true, false, not, ◌||◌}
-use mathlib.Core.List.{List, [], ◌∷◌, ◌++◌, append_assoc}
+use mathlib.Core.List.{List, [], ◌∷◌, ◌++◌}
 use Prim.Native.Nat.{ℕ, zero, suc, ◌+◌, ◌≤◌, ◌<◌}
 use native.Mathlib.Nat.{le_of_suc-le-suc, not-suc-le-zero}
 use native.Mathlib.Omega.{arith}
 use lib.Dec.{ltb, eqb}
-use native.Mathlib.Nat.{add-zero}
-use native.Mathlib.Numerals.{add-one}
-use lib.ListN.{length, take, drop, get_or, set, drop_of_length-le}
-use lib.Seq.{length-take-le, drop-cons, drop-drop, get_or-drop, get_or-take, take-suc, take-suc-set, drop-set-lt}
+use lib.ListN.{length, take, drop}
 use borrow.Author.Tests.{ltb-true, ltb-false, lt-ltb, le-ltb, ne_eqb, eq-eqb, eqb-true, eqb-false}
 use Rattle.tables.specs.Table.{From, Ordered, rank_of, member_of, insert_of, delete_of, put_once_of}
 
@@ -74,66 +71,6 @@ delete_split k (x ∷ l) o m =
     let lt : k < x + 0 = le_to_lt x k (ltb-false x k e) (eqb-false x k q) in
     let z : ◌≡◌ {A = Bool} true false = sym m2 ∙ From-none k (x + 0) l o.0 lt in
     absurd (mathlib.Core.Bool.true≢false z)))
-
-get_d_of_drop : (a b : List ℕ) (i : ℕ) → drop i a ≡ drop i b → get_or a i 0 ≡ get_or b i 0
-get_d_of_drop a b i e =
-    let f : get_or (drop i a) 0 0 ≡ get_or (drop i b) 0 0 = ap (λ (l : List ℕ). get_or l 0 0) e in
-    let g : get_or a (i + 0) 0 ≡ get_or b (i + 0) 0 = rw (get_or-drop i a, get_or-drop i b) at f in
-    rw (add-zero i) at g
-
-drop_more : (a b : List ℕ) (i : ℕ) → drop i a ≡ drop i b → drop (i + 1) a ≡ drop (i + 1) b
-drop_more a b i e = sym (drop-drop 1 i a) ∙ ap (drop 1) e ∙ drop-drop 1 i b
-
-pub drop_next : (a : List ℕ) (n i : ℕ) → i < n → n ≤ length a
-    → drop i (take n a) ≡ get_or a i 0 ∷ drop (i + 1) (take n a)
-drop_next a n i h g =
-    let l : length (take n a) ≡ n = length-take-le n a g in
-    drop-cons (take n a) i 0 (omega arith) ∙ rw (get_or-take n a i 0, add-one)
-
--- one step of an insertion: what was carried is put down at i, and what stood there is carried on
-pub ripple : (a b t : List ℕ) (n i x : ℕ) → i < n → n ≤ length b → length a ≡ length b → drop i a ≡ drop i b
-    → take i a ++ x ∷ drop i (take n b) ≡ t
-    → take (i + 1) (set a i x) ++ get_or a i 0 ∷ drop (i + 1) (take n b) ≡ t
-ripple a b t n i x h g l e q =
-    let p : take (i + 1) (set a i x) ≡ take i a ++ (x ∷ []) = rw add-one (take-suc-set a i x (omega arith)) in
-    let d : drop i (take n b) ≡ get_or a i 0 ∷ drop (i + 1) (take n b) =
-    drop_next b n i h g ∙ rw (get_d_of_drop a b i e) in
-    rw p (append_assoc (take i a) (x ∷ []) _ ∙ (rw (← d) q))
-
-pub ripple_rest : (a b : List ℕ) (i x : ℕ) → drop i a ≡ drop i b → drop (i + 1) (set a i x) ≡ drop (i + 1) b
-ripple_rest a b i x e = drop-set-lt (i + 1) a i x (omega arith) ∙ drop_more a b i e
-
--- one step of a removal: the key at i + 1 is put down at i
-pub close_up : (a b t : List ℕ) (n i : ℕ) → i + 1 < n → n ≤ length b → length a ≡ length b
-    → drop (i + 1) a ≡ drop (i + 1) b → take i a ++ drop (i + 1) (take n b) ≡ t
-    → take (i + 1) (set a i (get_or a (i + 1) 0)) ++ drop (i + 1 + 1) (take n b) ≡ t
-close_up a b t n i h g l e q =
-    let p : take (i + 1) (set a i (get_or a (i + 1) 0)) ≡ take i a ++ (get_or a (i + 1) 0 ∷ []) =
-    rw add-one (take-suc-set a i _ (omega arith)) in
-    let d : drop (i + 1) (take n b) ≡ get_or a (i + 1) 0 ∷ drop (i + 1 + 1) (take n b) =
-    drop_next b n (i + 1) h g ∙ rw (get_d_of_drop a b (i + 1) e) in
-    rw p (append_assoc (take i a) (get_or a (i + 1) 0 ∷ []) _ ∙ (rw (← d) q))
-
-pub shift_rest : (a b : List ℕ) (i x : ℕ) → drop (i + 1) a ≡ drop (i + 1) b
-    → drop (i + 1 + 1) (set a i x) ≡ drop (i + 1 + 1) b
-shift_rest a b i x e = drop-set-lt (i + 1 + 1) a i x (omega arith) ∙ drop_more a b (i + 1) e
-
--- a search through the first n keys of a, from the front, at place j
-module _ (k : ℕ) (a : List ℕ) (n j : ℕ) where
-  pub member_miss : j < n → n ≤ length a → (get_or a j 0 ≡ k → ⊥)
-      → member_of k (drop (j + 1) (take n a)) ≡ member_of k (drop j (take n a))
-  unfolding member_of
-  member_miss h g t = sym (rw (drop_next a n j h g, ne_eqb (get_or a j 0) k t))
-
-  pub member_hit : j < n → n ≤ length a → get_or a j 0 ≡ k → member_of k (drop j (take n a)) ≡ true
-  unfolding member_of
-  member_hit h g t = rw (drop_next a n j h g, eq-eqb (get_or a j 0) k t)
-
-  pub member_over : n ≤ length a → n ≤ j → member_of k (drop j (take n a)) ≡ false
-  unfolding member_of
-  member_over g h =
-      let l : length (take n a) ≡ n = length-take-le n a g in
-      rw (drop_of_length-le (take n a) {i = j} (omega arith))
 
 pub From-weaken : (a b : ℕ) (l : List ℕ) → a ≤ b → From b l → From a l
 From-weaken a b [] h f = tt
@@ -223,18 +160,6 @@ once_ordered k l o =
 pub length_once : (k : ℕ) (l : List ℕ) → length (put_once_of k l) ≤ length l + 1
 unfolding put_once_of
 length_once k l = split (member_of k l) (λ m. rw m (omega arith)) (λ m. rw m (omega (arith, length_insert k l)))
-
--- and so there is one more key exactly where it was not there
-pub more_when_new : (k : ℕ) (l : List ℕ) → ltb (length l) (length (put_once_of k l)) ≡ not (member_of k l)
-unfolding put_once_of
-more_when_new k l =
-    split (member_of k l) (λ m. rw m (le-ltb (length l) (length l) (omega arith)))
-    (λ m. rw m (lt-ltb (length l) (length (insert_of k l)) (omega (arith, length_insert k l))))
-
--- one more key is copied
-pub copied_more : (a b : List ℕ) (j : ℕ) → j < length a → j < length b → take j a ≡ take j b
-    → take (j + 1) (set a j (get_or b j 0)) ≡ take (j + 1) b
-copied_more a b j h g e = rw (add-one, take-suc-set a j (get_or b j 0) h, take-suc b j 0 g, e)
 
 -- what is a member after an insertion, of what it was before
 pub member_insert : (x k : ℕ) (l : List ℕ) → member_of x (insert_of k l) ≡ (eqb k x || member_of x l)
