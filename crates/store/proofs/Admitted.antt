@@ -1,14 +1,12 @@
 -- What the answers of the rows say of a request: refused, or accepted and performed. Assumes nothing.
-use Rattle.std.proofs.Common.{◌≡◌, ℕ, zero, suc, ◌≤◌, Bool, true, false, List, [], ◌∷◌, refl, sym, ap, subst, ◌∙◌, arith}
-use Rattle.std.specs.Prelude.{Option, None, Some, Result, Ok, Err}
+use Rattle.std.proofs.Common.{◌≡◌, ℕ, zero, suc, ◌≤◌, Bool, true, false, List, refl, sym, ap, subst, ◌∙◌, arith}
+use Rattle.std.specs.Prelude.{Option, None, Some, Ok, Err}
 use Rattle.refusals.specs.declared.Refusal.{Refusal}
-use Rattle.refusals.specs.declared.Refusal.TheVariants.{TransactionOutOfRange}
-use Rattle.answers.specs.declared.Answer.{Answer}
 use Rattle.answers.specs.declared.Answer.TheVariants.{Refused}
 use Rattle.boosting.specs.Object.{Call, Reply, State, reply}
-use Rattle.boosting.specs.Store.{«open», aborting, Transaction, Store, valid, transaction}
-use Rattle.boosting.specs.Rows.{Action, begin, commit, abort, roll_back, call, Request, request, call_rows, lock_rows, rows_of, first_met, refusal_of}
-use Rattle.boosting.specs.Step.{Out, perform, refuse, step_on}
+use Rattle.boosting.specs.Store.{aborting, Transaction, Store, valid, transaction}
+use Rattle.boosting.specs.Rows.{Action, begin, commit, abort, roll_back, call, Request, request, call_rows, lock_rows, first_met, refusal_of}
+use Rattle.boosting.specs.Step.{Out, perform, step_on}
 use Rattle.boosting.specs.Sound.{CallKey, ActionKey, RequestKey}
 use Rattle.boosting.proofs.Accepted.{accepted_standing, accepted_call, step_refused, step_accepted}
 use Rattle.boosting.proofs.StoreLaws.{valid_range}

@@ -1,16 +1,12 @@
 -- A store that is opened: the keys of the script read, an empty queue, eight closed transactions. Assumes nothing.
-use Rattle.std.proofs.Common.{◌≡◌, ℕ, zero, suc, ◌≤◌, List, [], ◌∷◌, length, take, replicate, refl, sym, ap, subst, ◌∙◌, arith}
-use lib.Seq.{take-take}
+use Rattle.std.proofs.Common.{◌≡◌, ℕ, zero, suc, ◌≤◌, List, [], length, replicate, refl, sym, ap, subst, ◌∙◌, arith}
 use Rattle.std.proofs.lemmas.List.{take_all}
 use Rattle.tables.specs.Table.{Ordered}
 use Rattle.tables.proofs.Laws.{Ordered-weaken}
-use Rattle.std.specs.Prelude.{Result, Ok, Err}
-use Rattle.refusals.specs.declared.RefusedText.{RefusedText}
 use Rattle.scripts.specs.Script.{keys_in, script_of, script_or_empty}
-use Rattle.store.specs.Answering.{opening}
 use Rattle.scripts.proofs.Theorems.{read_is_sound}
 use Rattle.boosting.specs.Object.{State}
-use Rattle.boosting.specs.Store.{Transaction, closed_transaction, Store, started, opened}
+use Rattle.boosting.specs.Store.{Transaction, closed_transaction, started, opened}
 use Rattle.boosting.specs.Room.{reserved_by, reserved_in, takes_by, takes_in}
 use Rattle.boosting.specs.Sound.{AllSound, Sound}
 use Rattle.boosting.proofs.Keeping.{closed_sound}

@@ -1,11 +1,10 @@
 -- What an accepted step does where the store stands: a state, and one transaction of the eight. Assumes nothing.
-use Rattle.std.proofs.Common.{◌≡◌, ℕ, zero, suc, ◌+◌, ◌-◌, ◌<◌, ◌≤◌, Bool, true, false, List, [], ◌∷◌, length, get_or, set, refl, sym, ap, subst, ◌∙◌, arith}
+use Rattle.std.proofs.Common.{◌≡◌, ℕ, zero, suc, ◌-◌, ◌≤◌, Bool, true, false, List, [], ◌∷◌, length, get_or, set, refl, sym, ap, subst, ◌∙◌, arith}
 use Rattle.std.specs.Prelude.{Option, None, Some}
-use Rattle.answers.specs.declared.Answer.{Answer}
 use Rattle.answers.specs.declared.Answer.TheVariants.{Left}
-use Rattle.boosting.specs.Object.{Call, Reply, State, effect, reply, answer_of}
+use Rattle.boosting.specs.Object.{Call, State, effect, reply, answer_of}
 use Rattle.boosting.specs.Undo.{Entry, entry_of, inverse, noted}
-use Rattle.boosting.specs.Locks.{Lock, Locks, lock_of, hold}
+use Rattle.boosting.specs.Locks.{Lock, lock_of, hold}
 use Rattle.boosting.specs.Room.{locks_full, log_full}
 use Rattle.boosting.specs.Store.{«open», aborting, Transaction, closed_transaction, open_transaction, Store, valid, transaction, put}
 use Rattle.boosting.specs.Rows.{begin, commit, abort, roll_back, call, request, refusal_of}

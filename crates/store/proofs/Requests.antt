@@ -17,8 +17,8 @@ use Rattle.steps.specs.declared.reading.Step.TheVariants.{WithCue}
 use Rattle.cues.specs.declared.CueNumbers.{CueNumbers}
 use Rattle.boosting.specs.Object.{Call}
 use Rattle.boosting.specs.Store.{Store}
-use Rattle.boosting.specs.Rows.{Request, call, request, cue_call, request_of, first_met, refusal_of}
-use Rattle.boosting.specs.Step.{Out, step_on}
+use Rattle.boosting.specs.Rows.{call, request, cue_call, request_of, first_met, refusal_of}
+use Rattle.boosting.specs.Step.{step_on}
 use Rattle.boosting.proofs.Accepted.{accepted_call, step_refused}
 use Rattle.boosting.proofs.Sound.{request_key}
 use Rattle.store.specs.Answering.{Asks}

@@ -97,7 +97,7 @@ impl Store {
         }
     }
 
-    // One step that has been read: refused with nothing changed, or accepted and done. A line that is no step is refused.
+    // One step that has been read, or none where a line is no step: refused with nothing changed, or accepted and done.
     pub fn execute(&mut self, step: Option<Step>) -> Answer
         ensures store { self.new ≡ (step_on self.old (request_of step)).store }
         ensures answer { result ≡ (step_on self.old (request_of step)).answer }

@@ -13,31 +13,31 @@ impl Store {
     pub fn script_length(&self) -> usize
         ensures { result ≡ length (text_of self.now.state.script) }
     {
-        let keys = self.object.script();
-        cues_length(keys, keys.len())
+        let script = self.object.script();
+        cues_length(script, script.len())
     }
 
     // How many bytes the queue's lines have.
     pub fn queue_length(&self) -> usize
         ensures { result ≡ length (text_of self.now.state.queue) }
     {
-        let keys = self.object.queue();
-        cues_length(keys, keys.len())
+        let queue = self.object.queue();
+        cues_length(queue, queue.len())
     }
 
     // Writes the script's lines, if they fit.
     pub fn write_script(&self, buf: &mut [u8], at: usize) -> Result<usize, Refusal>
         ensures { (result, buf.new) ≡ written_at buf.old at (text_of self.now.state.script) }
     {
-        let keys = self.object.script();
-        write_cues(buf, at, keys, keys.len())
+        let script = self.object.script();
+        write_cues(buf, at, script, script.len())
     }
 
     // Writes the queue's lines, if they fit.
     pub fn write_queue(&self, buf: &mut [u8], at: usize) -> Result<usize, Refusal>
         ensures { (result, buf.new) ≡ written_at buf.old at (text_of self.now.state.queue) }
     {
-        let keys = self.object.queue();
-        write_cues(buf, at, keys, keys.len())
+        let queue = self.object.queue();
+        write_cues(buf, at, queue, queue.len())
     }
 }

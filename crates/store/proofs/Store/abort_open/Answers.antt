@@ -1,4 +1,4 @@
-use Rattle.std.proofs.Common.{sym, subst, ap, ◌∙◌, ◌≡◌}
+use Rattle.std.proofs.Common.{sym, subst, ◌∙◌, ◌≡◌}
 use Rattle.boosting.specs.Store.{Store, transaction, «open»}
 use Rattle.boosting.specs.Rows.{request, abort}
 use Rattle.boosting.specs.Step.{step_on}

@@ -1,4 +1,4 @@
-use Rattle.std.proofs.Common.{length, ap, sym, ◌∙◌, arith, ◌≡◌}
+use Rattle.std.proofs.Common.{length, ap, sym, ◌∙◌, arith}
 use Rattle.boosting.specs.Store.{Store, Transaction, transaction}
 use Rattle.admission.proofs.Rows.{transaction-place}
 use Rattle.store.proofs.Recovering as laws

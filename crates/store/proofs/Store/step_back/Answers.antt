@@ -1,4 +1,4 @@
-use Rattle.std.proofs.Common.{sym, subst, ap, ◌∙◌, ◌≡◌}
+use Rattle.std.proofs.Common.{sym, subst, ◌∙◌, ◌≡◌}
 use Rattle.boosting.specs.Store.{Store, transaction, aborting}
 use Rattle.boosting.specs.Rows.{request, roll_back}
 use Rattle.boosting.specs.Step.{step_on}

@@ -1,7 +1,6 @@
-use Rattle.std.proofs.Common.{Err, ap, sym, subst, ◌∙◌, ◌≡◌, ◌≤◌}
+use Rattle.std.proofs.Common.{Err, ap, sym, subst, ◌∙◌, ◌≡◌}
 use Rattle.std.specs.Prelude.{Some, None}
 use Rattle.std.proofs.lemmas.Result.{err_from_is_err_and}
-use Rattle.answers.specs.declared.Answer.TheVariants.{Refused}
 use Rattle.boosting.specs.Store.{Store, transaction, aborting}
 use Rattle.boosting.specs.Rows.{begin, commit, abort, roll_back, call, request, refusal_of}
 use Rattle.boosting.specs.Step.{Out, step_on, perform}

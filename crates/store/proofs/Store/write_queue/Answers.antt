@@ -7,5 +7,5 @@ use Rattle.store.proofs.Store.write_queue.Goals as goal
 
 pub returns : goal.returns
 returns c =
-    let all = keys_all _ c.queue-keys.result.now c.queue-keys.ensures.value (omega (arith, ap length c.queue-keys.ensures.value, c.queue-keys.ensures.fits)) in
+    let all = keys_all _ c.queue-queue.result.now c.queue-queue.ensures.value (omega (arith, ap length c.queue-queue.ensures.value, c.queue-queue.ensures.fits)) in
     c.write_cues.ensures ∙ ap (λ (l : List ℕ). written_at c.args.buf.now c.args.at (text_of l)) (all ∙ ap (λ (d : Store). d.state.queue) c.self.view_is)

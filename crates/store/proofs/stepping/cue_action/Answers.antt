@@ -1,4 +1,4 @@
-use Rattle.std.proofs.Common.{ap, sym, ◌∙◌}
+use Rattle.std.proofs.Common.{ap, ◌∙◌}
 use Rattle.cues.specs.Cue.{key_of}
 use Rattle.store.proofs.Requests as laws
 use Rattle.store.proofs.stepping.cue_action.Goals as goal
