@@ -1,7 +1,23 @@
 -- The replay of term 3: a plain desk, fed the accepted calls of the committed transactions, in commit order. What it is
 -- fed is computed from the step lines and from which of them were refused, and from nothing else: `Seen` holds no more.
 -- Assumes nothing.
-use Rattle.std.specs.Prelude.{ℕ, Option, Some, None, Bool, true, false, if◌then◌else◌, List, [], ◌∷◌, ◌++◌, map, reverse, nat_eq}
+use Rattle.std.specs.Prelude.{
+  ℕ,
+  Option,
+  Some,
+  None,
+  Bool,
+  true,
+  false,
+  if◌then◌else◌,
+  List,
+  [],
+  ◌∷◌,
+  ◌++◌,
+  map,
+  reverse,
+  nat_eq,
+}
 use Rattle.steps.specs.Step.{step_of}
 use Rattle.answers.specs.declared.Answer.{Answer}
 use Rattle.answers.specs.declared.Answer.TheVariants.{Ok, Yes, No, Empty, Cue, Left, Refused}
@@ -51,7 +67,8 @@ since e (Some q) x xs = since_action e q.transaction q.action x xs
 -- the accepted calls of e since its begin, newest first
 unfoldable pub calls_of : ℕ → List Seen → List Call
 calls_of e [] = []
-calls_of e (h ∷ hs) = if h.refused then calls_of e hs else since e (request_of (step_of h.line)) (λ c. c) (calls_of e hs)
+calls_of e (h ∷ hs) =
+    if h.refused then calls_of e hs else since e (request_of (step_of h.line)) (λ c. c) (calls_of e hs)
 
 -- what an accepted action of f adds to the feed: a commit the calls of f
 abbrev pub committed_action : {A : Type 0} → ℕ → Action → (ℕ → List A) → List A → List A

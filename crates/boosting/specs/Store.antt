@@ -1,5 +1,23 @@
 -- The store, the users' desk: one script, one queue and eight transactions, the users' edits. Assumes nothing.
-use Rattle.std.specs.Prelude.{ℕ, zero, suc, Bool, if◌then◌else◌, ◌&&◌, List, [], ◌∷◌, nat_eq, nat_le, slice_index_or, set, replicate, Option, None, Some}
+use Rattle.std.specs.Prelude.{
+  ℕ,
+  zero,
+  suc,
+  Bool,
+  if◌then◌else◌,
+  ◌&&◌,
+  List,
+  [],
+  ◌∷◌,
+  nat_eq,
+  nat_le,
+  slice_index_or,
+  set,
+  replicate,
+  Option,
+  None,
+  Some,
+}
 use Rattle.boosting.specs.Object.{State}
 use Rattle.boosting.specs.Undo.{Entry}
 use Rattle.boosting.specs.Locks.{Lock, Locks, no_locks, conflicts}

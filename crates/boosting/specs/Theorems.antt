@@ -1,6 +1,30 @@
 -- The three terms of acceptance, what stepping keeps, and the lock listing, as theorems about the model; proved in
 -- `proofs/Theorems.antt`. Assumes nothing.
-use Rattle.std.specs.Prelude.{ℕ, suc, ◌≤◌, ◌<◌, max, ◌≡◌, Bool, true, false, if◌then◌else◌, not, ◌&&◌, ◌||◌, List, [], ◌∷◌, ◌⊎◌, ◌↔◌, nat_eq, length, Option, None, Some}
+use Rattle.std.specs.Prelude.{
+  ℕ,
+  suc,
+  ◌≤◌,
+  ◌<◌,
+  max,
+  ◌≡◌,
+  Bool,
+  true,
+  false,
+  if◌then◌else◌,
+  not,
+  ◌&&◌,
+  ◌||◌,
+  List,
+  [],
+  ◌∷◌,
+  ◌⊎◌,
+  ◌↔◌,
+  nat_eq,
+  length,
+  Option,
+  None,
+  Some,
+}
 use Rattle.refusals.specs.declared.Refusal.{Refusal}
 use Rattle.refusals.specs.declared.Refusal.TheVariants.{Blocked}
 use Rattle.refusals.specs.declared.Refusal.TheVariants.{Malformed as MalformedLine}
@@ -164,9 +188,12 @@ count_of k (x ∷ xs) = if nat_eq x k then suc (count_of k xs) else count_of k x
 -- the plain meaning of the sorted lists: a set, and a collection whose first cue is the least
 pub record PlainMeaning : Type 0 where
   pub add_member : (j k : ℕ) (x : List ℕ) → member_of j (put_once_of k x) ≡ (nat_eq k j || member_of j x)
-  pub remove_member : (j k : ℕ) (x : List ℕ) → Ordered 1 x → member_of j (delete_of k x) ≡ (not (nat_eq k j) && member_of j x)
-  pub push_count : (j k : ℕ) (q : List ℕ) → count_of j (insert_of k q) ≡ (if nat_eq k j then suc (count_of j q) else count_of j q)
-  pub take_count : (j k : ℕ) (q : List ℕ) → count_of j (k ∷ q) ≡ (if nat_eq k j then suc (count_of j q) else count_of j q)
+  pub remove_member :
+      (j k : ℕ) (x : List ℕ) → Ordered 1 x → member_of j (delete_of k x) ≡ (not (nat_eq k j) && member_of j x)
+  pub push_count :
+      (j k : ℕ) (q : List ℕ) → count_of j (insert_of k q) ≡ (if nat_eq k j then suc (count_of j q) else count_of j q)
+  pub take_count :
+      (j k : ℕ) (q : List ℕ) → count_of j (k ∷ q) ≡ (if nat_eq k j then suc (count_of j q) else count_of j q)
   pub undo_push_count :
       (j k : ℕ) (q : List ℕ) → member_of k q ≡ true
       → count_of j q ≡ (if nat_eq k j then suc (count_of j (delete_of k q)) else count_of j (delete_of k q))

@@ -19,8 +19,8 @@ use steps::Step;
 // A quick look reads no byte past these: the longest plain line has 23 with its LF.
 const REACH: usize = 32;
 
-// The transaction's number at a place. This and the next two look through a window, so that nothing tests for the end of
-// the text again.
+// The transaction's number at a place. This and the next two look through a window, so that nothing tests for the
+// text's end again.
 fn transaction_at(text: &[u8], at: usize) -> Option<Short>
     requires { at + 1 ≤ length text.now }
     ensures { ShortFits text.now at 1 result }

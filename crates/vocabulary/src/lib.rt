@@ -63,7 +63,7 @@ pub enum Action {
     OnObject(bool, Call),
 }
 
-// What a step line asks for: the transaction's number, whatever its range, and an action. A malformed line asks nothing.
+// What a step line asks for: the transaction's number, whatever its range, and an action. A malformed line asks none.
 #[derive(Clone, Copy, Debug, PartialEq, Eq)]
 pub struct Request {
     pub transaction: u64,
