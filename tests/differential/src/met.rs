@@ -4,7 +4,7 @@ use differential::library::TOO_SHORT;
 use reference::script::{self, MALFORMED, NO_PLACE, OUT_OF_RANGE, TOO_LONG};
 use std::fmt;
 
-/// The refusals that there are, in the order of the paper's table.
+/// The refusals that there are, in the order of the table of rule 4.
 const REFUSALS: [u8; 5] = [TOO_LONG, MALFORMED, OUT_OF_RANGE, NO_PLACE, TOO_SHORT];
 
 #[derive(Default)]

@@ -26,7 +26,7 @@ const WEIGHTS: [[usize; CALLS.len()]; 7] = [
 /// So many of them are mostly of the script.
 const SCRIPT_WEIGHTS: usize = 3;
 
-/// Inputs at the bounds of how the start script and the step list are parted, and the printed run of document 01.
+/// Inputs at the bounds of how the start script and the step list are parted, and the printed run.
 const BOUNDS: &[&str] = &[
     "",
     "\n",

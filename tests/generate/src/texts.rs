@@ -1,4 +1,4 @@
-//! Script texts to try: short and long, valid, damaged and at every bound of document 01.
+//! Script texts to try: short and long, valid, damaged and at every bound of the rules (docs/RULES.md).
 
 use crate::random::Random;
 use reference::cue::{Cue, MODULES, PINS, TIMES};

@@ -89,7 +89,7 @@ mod tests {
     }
 
     #[test]
-    fn ranges_end_where_the_paper_says() {
+    fn ranges_end_where_the_rules_say() {
         assert!(Cue::new([0, 1, 1]).is_some());
         assert!(Cue::new([3_599_999, 99, 32]).is_some());
         for outside in [[3_600_000, 1, 1], [0, 0, 1], [0, 100, 1], [0, 1, 0], [0, 1, 33], [0, 257, 1]] {

@@ -1,4 +1,4 @@
-//! Script text, its stamp and the shared cue desk in plain Rust, written from document 01 alone and not
+//! Script text, its stamp and the shared cue desk in plain Rust, written from docs/RULES.md alone and not
 //! from the proved code. The differential test compares results with it, and the benchmark compares times.
 
 pub mod answer;

@@ -1,4 +1,4 @@
-//! Document 01's replay: a plain desk without edits, locks or room, fed only what was committed. It shares
+//! The replay (docs/RULES.md, 8): a plain desk without edits, locks or room, fed only what was committed. It shares
 //! no state with the desk, so that each can be held against the other.
 
 use crate::answer::Answer;

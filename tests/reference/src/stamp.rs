@@ -1,4 +1,4 @@
-//! The stamp, document 01's word for the checksum of a text: a polynomial in 31 over the weights of
+//! The stamp, the users' word for the checksum of a text: a polynomial in 31 over the weights of
 //! its bytes, modulo 2 to the 32.
 
 /// The weight of a byte, by the rule of the module book.
@@ -21,13 +21,13 @@ mod tests {
     use super::*;
 
     #[test]
-    fn weights_of_the_paper() {
+    fn printed_weights() {
         let weights = [0, 1, 2, 255].map(weight);
         assert_eq!(weights, [12_345, 52_848, 27_815, 51_458]);
     }
 
     #[test]
-    fn stamps_of_the_paper() {
+    fn printed_stamps() {
         assert_eq!(stamp(b""), 0);
         assert_eq!(stamp(b"0"), 55_945);
         assert_eq!(stamp(b"0\n"), 1_758_454);

@@ -1,4 +1,4 @@
-//! The reference's desk against document 01's replay: gives it many random step lists, stops at random places,
+//! The reference's desk against the replay: gives it many random step lists, stops at random places,
 //! recovers in random orders, and fails where the two differ or where an answer or a row of the table of
 //! refusals was never met. Arguments: how many lists, and the seed.
 //!

@@ -1,4 +1,5 @@
-//! The examples of document 01: the worked steps, the small examples of refusals, the printed run and the traps.
+//! The examples of the rules (docs/RULES.md): the worked steps, the small examples of refusals, the printed run and
+//! the traps.
 
 use reference::cue::Cue;
 use reference::desk::{Desk, EDITS};
