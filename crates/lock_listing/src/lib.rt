@@ -1,4 +1,4 @@
-// The lock listing, document 01's lock sheet: a line for each cue lock and each queue mode that is held.
+// The lock listing, the users' lock sheet: a line for each cue lock and each queue mode that is held.
 //
 // It is written into a lent buffer, whole or not at all. The promise leaves the order of the lines open; the program
 // takes transaction by transaction, each with its cue locks and then its modes. No public function has a `requires`.

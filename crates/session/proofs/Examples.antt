@@ -1,4 +1,4 @@
--- Whole inputs and outputs of the program, computed: document 01's, and one for each odd shape of an input.
+-- Whole inputs and outputs of the program, computed: the printed run, and one for each odd shape of an input.
 -- Assumes nothing.
 use Prim.Native.Nat.{ℕ}
 use mathlib.Core.Path.{◌≡◌, refl}
@@ -32,7 +32,7 @@ use Rattle.session.specs.Output.{answers_text, run_text, output_of}
 -- an input, and its output
 abbrev pub examples : List (List ℕ × List ℕ)
 examples =
-    -- document 01's
+    -- the printed run
     (
       bytes "1500,4,12\n1500,2,7\nsteps\nbegin,1\nbegin,2\nadd,1,1500,2,9\nadd,2,1500,2,9\npush,2,900,1,1\n"
           ++ bytes "push,1,900,1,1\nremove,2,1500,4,12\ncommit,1\nmin,2\nundo,2\nback,2\n",
