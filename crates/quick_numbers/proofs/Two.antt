@@ -1,5 +1,5 @@
--- Laws of one digit and of two, each read as the byte less 48 modulo 2 ^ 64. Assumes nothing.
-use Rattle.std.proofs.Common.{◌≡◌, ℕ, suc, ◌+◌, ◌-◌, ◌*◌, ◌%◌, ◌^◌, ◌<◌, ◌≤◌, List, [], ◌∷◌, length, get_or, take, drop, refl, ap, ◌∙◌, arith, length-drop, drop-cons}
+-- Laws of a number of one digit or two, each read as the byte less 48 modulo 2 ^ 64. Assumes nothing.
+use Rattle.std.proofs.Common.{◌≡◌, ℕ, ◌+◌, ◌-◌, ◌*◌, ◌%◌, ◌^◌, ◌<◌, ◌≤◌, List, [], ◌∷◌, length, get_or, take, drop, refl, ap, ◌∙◌, arith, length-drop, drop-cons}
 use lib.ListN.{drop_of_length-le}
 use lib.Seq.{take_all}
 use Rattle.std.proofs.Common.{sym, length-take-le}
@@ -43,23 +43,6 @@ two_number a b h g z =
 pub no_text : (s : List ℕ) (at most window : ℕ) → 0 < window → length s < at + window
     → None ≡ short_of most window (drop at s)
 no_text s at most window w h = short_text most window (drop at s) (omega (arith, length-drop at s))
-
-pub no_first : (s : List ℕ) (at most w a : ℕ) → at < length s → (a + 48) % 2 ^ 64 ≡ get_or s at 0 → 9 < a → a < 2 ^ 64
-    → None ≡ short_of most (suc w) (drop at s)
-no_first s at most w a h e n m =
-    short_bad most (suc w) (drop at s) []
-    (rw (drop-cons s at 0 h) (no_lead (get_or s at 0) (take w (drop (suc at) s)) (λ p q. omega arith)))
-    (number_empty [] refl)
-
-pub one_digit : (s : List ℕ) (at a : ℕ) → at + 1 ≤ length s → (a + 48) % 2 ^ 64 ≡ get_or s at 0 → a ≤ 9
-    → Some (record { value = a; digits = 1 }) ≡ short_of 1 1 (drop at s)
-one_digit s at a h e n =
-    let b : get_or s at 0 ≡ 48 + a = omega arith in
-    short_good 1 1 (drop at s) ((48 + a) ∷ []) a 1 (omega (arith, length-drop at s))
-    (rw (drop-cons s at 0 (omega arith), b) (leads_alone a n))
-    refl
-    (omega arith)
-    (one_number a n)
 
 -- what stands from a place on
 pub rest_is : (s : List ℕ) (at : ℕ) → take (length s - at) (drop at s) ≡ drop at s
@@ -107,6 +90,3 @@ module _ (l t : List ℕ) (chunk : IsFirstChunk l t 2) (a b : ℕ) (first : (a +
         refl
         (omega arith)
         (one_number a digit)
-
--- what the functions of one digit and of two are proved by
-pub ruleset short_reads = (no_text, no_first, one_digit)

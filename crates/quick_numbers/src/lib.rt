@@ -1,4 +1,4 @@
-// The short numbers of a step line, read where they stand: of one digit, of one or two, of at most seven.
+// The short numbers of a step line, read where they stand: of one digit or two, and of at most seven.
 //
 // There is none where the text ends too soon, where no digit stands there, where a number has a leading zero, and where
 // seven digits have another behind them. No public function has a `requires`.
@@ -40,22 +40,8 @@ fn digit_of(byte: u8) -> u64
     u64::from(byte).wrapping_sub(48)
 }
 
-#[tactic(auto, using(crate::proofs::Two::short_reads))]
-pub fn one_digit(text: &[u8], at: usize) -> Option<Short>
-    ensures { result ≡ short_of 1 1 (drop at text.now) }
-{
-    let digit = digit_of(*text.get(at)?);
-    if 9 < digit {
-        return None;
-    }
-    Some(Short {
-        value: digit,
-        digits: 1,
-    })
-}
-
 // A number of one digit or two. Which of the two cannot be guessed, so nothing branches on it.
-#[tactic(auto, using(crate::proofs::Two::short_reads))]
+#[tactic(auto, using(crate::proofs::Two::no_text))]
 pub fn two_digits(text: &[u8], at: usize) -> Option<Short>
     ensures { result ≡ short_of 2 2 (drop at text.now) }
 {

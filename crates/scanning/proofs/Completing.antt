@@ -162,14 +162,12 @@ rest_earlier : (before t s : List ℕ) (at q : ℕ) (r : Option Scanned) → q �
 rest_earlier before t s at q (Some r) e h c = earlier before t s at q r e h c
 rest_earlier before t s at q None e h c = tt
 
--- a field of one digit before
-pub rest_field : (before s : List ℕ) (at b : ℕ) (v : Short) (r : Option Scanned) → ShortStands s at 1 v
-    → at + 1 < length s → get_or s (at + 1) 0 ≡ b → RestFits (before ++ field_text v.value b) s (at + 2) r
-    → RestFits before s at r
-rest_field before s at b v r f l e c =
-    let one : v.digits ≡ 1 = omega (arith, f.some, f.few) in
-    let d = field_stands s at 1 v f b (rw one l) (rw one e) in
-    rest_earlier before (field_text v.value b) s at (at + 2) r (omega (arith, d.1)) d.0 c
+-- a number and a byte before
+pub rest_field : (before s : List ℕ) (at most b : ℕ) (v : Short) (r : Option Scanned) → ShortStands s at most v
+    → at + v.digits < length s → get_or s (at + v.digits) 0 ≡ b
+    → RestFits (before ++ field_text v.value b) s (at + v.digits + 1) r → RestFits before s at r
+rest_field before s at most b v (Some r) f l e c = field_earlier before s at most v f b r l e c
+rest_field before s at most b v None f l e c = tt
 
 pub rest_scans : (t s : List ℕ) (at q : ℕ) (r : Option Scanned) → q ≡ at + length t → Stands s at t → RestFits t s q r
     → QuickFits s at r

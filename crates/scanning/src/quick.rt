@@ -1,5 +1,5 @@
-// A quick look at a line of the plain form: a word, a transaction of one digit, a time of at most seven digits, a
-// module and a pin of at most two, and LF. What it finds is the line's step; of any other line it says nothing.
+// A quick look at a line of the plain form: a word, a time of at most seven digits, other numbers of at most two, and
+// LF. What it finds is the line's step; of any other line it says nothing.
 ghost use Rattle.std.specs.Prelude.{◌≡◌, ◌++◌, ◌+◌, ◌≤◌, length};
 ghost use Rattle.records.specs.Record.{field_text};
 ghost use Rattle.steps.specs.StepText.{NineDigits};
@@ -11,25 +11,15 @@ ghost use Rattle.scanning.specs.Quick.{RestFits, QuickFits};
 use crate::Scanned;
 use cues::CueNumbers;
 use lines::{COMMA, LF};
-use quick_numbers::{Short, one_digit, seven_digits, two_digits};
+use quick_numbers::{Short, seven_digits, two_digits};
 use quick_words::WordTable;
 use step_words::{CueWord, Word};
 use steps::Step;
 
-// A quick look reads no byte past these: the longest plain line has 23 with its LF.
+// A quick look reads no byte past these: the longest plain line has 24 with its LF.
 const REACH: usize = 32;
 
-// The transaction's number at a place. This and the next two look through a window, so that nothing tests for the
-// text's end again.
-fn transaction_at(text: &[u8], at: usize) -> Option<Short>
-    requires { at + 1 ≤ length text.now }
-    ensures { ShortFits text.now at 1 result }
-{
-    let end = at + 1;
-    one_digit(&text[at..end], 0)
-}
-
-// The time at a place.
+// The time at a place. This and the next look through a window, so that nothing tests for the text's end again.
 fn time_at(text: &[u8], at: usize) -> Option<Short>
     requires { at + 8 ≤ length text.now }
     ensures { ShortFits text.now at 7 result }
@@ -38,8 +28,8 @@ fn time_at(text: &[u8], at: usize) -> Option<Short>
     seven_digits(&text[at..end], 0)
 }
 
-// The module or the pin at a place.
-fn address_at(text: &[u8], at: usize) -> Option<Short>
+// A transaction's number, a module or a pin at a place.
+fn small_at(text: &[u8], at: usize) -> Option<Short>
     requires { at + 2 ≤ length text.now }
     ensures { ShortFits text.now at 2 result }
 {
@@ -58,12 +48,12 @@ fn quick_cue(text: &[u8], at: usize, word: CueWord, e: u64) -> Option<Scanned>
     if text[time_end] != COMMA {
         return None;
     }
-    let module = address_at(text, time_end + 1)?;
+    let module = small_at(text, time_end + 1)?;
     let module_end = time_end + 1 + module.digits;
     if text[module_end] != COMMA {
         return None;
     }
-    let pin = address_at(text, module_end + 1)?;
+    let pin = small_at(text, module_end + 1)?;
     let end = module_end + 1 + pin.digits;
     if text[end] != LF {
         return None;
@@ -79,15 +69,16 @@ fn quick_cue(text: &[u8], at: usize, word: CueWord, e: u64) -> Option<Scanned>
 
 // What stands behind a word's comma.
 fn quick_rest(text: &[u8], at: usize, word: Word) -> Option<Scanned>
-    requires { at + 16 ≤ length text.now }
+    requires { at + 17 ≤ length text.now }
     ensures { RestFits (word_line word) text.now at result }
 {
-    let e = transaction_at(text, at)?;
+    let e = small_at(text, at)?;
+    let end = at + e.digits;
     match word {
-        Word::WithCue(word) if text[at + 1] == COMMA => quick_cue(text, at + 2, word, e.value),
-        Word::WithNumber(word) if text[at + 1] == LF => {
+        Word::WithCue(word) if text[end] == COMMA => quick_cue(text, end + 1, word, e.value),
+        Word::WithNumber(word) if text[end] == LF => {
             let step = Some(Step::WithNumber(word, e.value));
-            Some(Scanned { step, end: at + 1 })
+            Some(Scanned { step, end })
         }
         _ => None,
     }

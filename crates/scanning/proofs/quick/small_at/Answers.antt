@@ -1,7 +1,7 @@
--- `scanning::quick::address_at` meets its contract.
+-- `scanning::quick::small_at` meets its contract.
 use Rattle.std.proofs.Common.{arith, ◌+◌}
 use Rattle.scanning.proofs.Parts.{in_text}
-use Rattle.scanning.proofs.quick.address_at.Goals as goal
+use Rattle.scanning.proofs.quick.small_at.Goals as goal
 
 pub returns : goal.returns
 returns c =
