@@ -3,7 +3,8 @@ use mathlib.Core.Path.{◌≡◌, refl, sym, ap, ◌∙◌}
 use mathlib.Core.List.{List, [], ◌∷◌, ◌++◌}
 use Prim.Native.Nat.{ℕ, ◌+◌, ◌≤◌, ◌<◌}
 use native.Mathlib.Omega.{arith}
-use lib.ListN.{length, length-append}
+use native.Mathlib.Numerals.{unary_clauses}
+use lib.ListN.{length, length-append, set}
 use lib.Seq.{sets, sets-eq, length-sets}
 use Rattle.std.specs.Prelude.{Result, Ok}
 use Rattle.std.specs.Result.{result_unwrap_or}
@@ -35,6 +36,16 @@ appended_put buf mid text at end h e =
 -- the number's one digit
 pub one_digit : (n b : ℕ) → n < 10 → field_text n b ≡ (48 + n) ∷ b ∷ []
 one_digit n b h = ap (λ (ds : List ℕ). ds ++ (b ∷ [])) (digits_small 19 n h)
+
+-- the line's end, stored byte by byte
+pub end_stored : (buf : List ℕ) (at n : ℕ) → at + 3 ≤ length buf → n < 10
+    → set (set (set buf at 44) (at + 1) (48 + n)) (at + 2) 10 ≡ placed buf at (44 ∷ field_text n 10)
+end_stored buf at n h d =
+    let by_sets : set (set (set buf at 44) (at + 1) (48 + n)) (at + 2) 10 ≡ sets buf at (44 ∷ (48 + n) ∷ 10 ∷ []) =
+    simp unary_clauses refl in
+    by_sets
+    ∙ (sets-eq (44 ∷ (48 + n) ∷ 10 ∷ []) buf at (omega arith)
+    ∙ ap (λ (l : List ℕ). placed buf at (44 ∷ l)) (sym (one_digit n 10 d)))
 
 -- a word and a last number of one digit
 pub digit_line : (buf m₁ m₂ word : List ℕ) (at n : ℕ) → at + 12 ≤ length buf → length word ≤ 9 → n < 10

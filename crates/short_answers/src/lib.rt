@@ -27,13 +27,16 @@ fn put_bytes<const N: usize>(buf: &mut [u8], at: usize, bytes: &[u8; N])
 }
 
 // The comma, the digit of n and the LF that end a line, at a place where they fit.
-#[tactic(auto, using(crate::proofs::ShortLines::one_digit))]
+#[tactic(auto, using(crate::proofs::ShortLines::end_stored))]
 fn put_last_digit(buf: &mut [u8], at: usize, n: u64)
     requires has_room { at + 3 ≤ length buf.old }
     requires one_digit { n < 10 }
     ensures { buf.new ≡ placed buf.old at (44 ∷ field_text n 10) }
 {
-    put_bytes(buf, at, &[b',', b'0' + n as u8, b'\n']);
+    // Three stores: a short array of them would be read back before it is stored.
+    buf[at] = b',';
+    buf[at + 1] = b'0' + n as u8;
+    buf[at + 2] = b'\n';
 }
 
 // Appends the line `left,n` with its LF where twelve bytes fit.
