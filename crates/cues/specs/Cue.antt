@@ -4,7 +4,8 @@ use Rattle.cues.specs.declared.Cue.{Cue}
 
 -- time in milliseconds 0 to 3,599,999, module 1 to 99, pin 1 to 32
 abbrev pub in_range : ℕ → ℕ → ℕ → Bool
-in_range time «module» pin = nat_le time 3599999 && (nat_le 1 «module» && nat_le «module» 99) && (nat_le 1 pin && nat_le pin 32)
+in_range time «module» pin =
+    nat_le time 3599999 && (nat_le 1 «module» && nat_le «module» 99) && (nat_le 1 pin && nat_le pin 32)
 
 abbrev pub InRange : Cue → Type 0
 InRange c = in_range c.time c.«module» c.pin ≡ true

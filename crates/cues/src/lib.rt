@@ -28,6 +28,7 @@ impl Cue {
     pub fn of_key(key: u64) -> Cue
         ensures { result ≡ cue_of key }
     {
+        // `as`, since a remainder that fits has no `From` into the smaller type.
         Cue {
             time: (key / 65536 % 4294967296) as u32,
             module: (key / 256 % 256) as u8,
@@ -63,6 +64,7 @@ impl TryFrom<CueNumbers> for Cue {
         if !numbers.in_range() {
             return Err(Refusal::CueOutOfRange);
         }
+        // `as`, since the test has found that each fits: `try_from` would have a second, empty refusal.
         Ok(Cue {
             time: numbers.time as u32,
             module: numbers.module as u8,

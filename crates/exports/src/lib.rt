@@ -1,4 +1,5 @@
-// What tests and benchmarks call from Rust: numbers and bytes alone. `exports_c` gives these functions their C names.
+// What tests and benchmarks call from Rust: numbers and bytes alone. `exports_c` gives these functions their C names:
+// a C interface needs a static library, whose functions no other crate can call.
 #![tactic(auto)]
 
 ghost use Rattle.std.specs.Prelude.{◌≡◌};
@@ -16,6 +17,7 @@ fn answer_number(written: Result<usize, Refusal>) -> u64
     ensures { result ≡ answer_number written }
 {
     match written {
+        // `as`: a `usize` has no `From` into `u64`, and C gets 64 bits.
         Ok(end) => end as u64,
         Err(refusal) => 4294967296 + refusal.number(),
     }

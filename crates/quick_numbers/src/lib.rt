@@ -95,6 +95,7 @@ pub fn seven_digits(text: &[u8], at: usize) -> Option<Short>
     ensures { result ≡ short_of 7 8 (drop at text.now) }
 {
     let z = eight_bytes(text, at)?.wrapping_sub(EACH_48);
+    // `as`, here and below: a `u32` has no `From` into `usize`, nor a `usize` into `u64`.
     let n = (larger_bytes(z).trailing_zeros() / 8) as usize;
     if n < 1 || 7 < n {
         return None;

@@ -78,6 +78,7 @@ impl WordTable {
         let bytes = eight_bytes(text, at)?;
         // half the first byte and the second, of which only the low four bits count
         let slot = (bytes / 2 + bytes / 256) % 16;
+        // `as`: a remainder below 16 has no `From` into `usize`, and `try_from` would be a branch that no text takes.
         let row = self.rows[slot as usize];
         if bytes & row.mask != row.number {
             return None;

@@ -12,6 +12,7 @@ fn if_below(other: u64, key: u64, count: usize) -> usize
     requires key { key < 2 ^ 63 }
     ensures { result ≡ (if nat_lt other key then count else 0) }
 {
+    // `as`: a bit of a `u64` has no `From` into `usize`.
     count * ((key + 0x7fff_ffff_ffff_ffff - other) >> 63) as usize
 }
 
@@ -26,6 +27,7 @@ fn rank_by_bits(keys: &[u64], key: u64) -> usize
 {
     let mut low = 0;
     let mut left = keys.len();
+    // No `for`: what is left is halved, and nothing is counted.
     while left > 1 {
         let half = left / 2;
         low += if_below(keys[low + half - 1], key, half);
@@ -34,7 +36,8 @@ fn rank_by_bits(keys: &[u64], key: u64) -> usize
     low + if_below(keys[low], key, 1)
 }
 
-// For keys of any size.
+// For keys of any size. It stands beside the other because each is right where the other is not: that one asks for keys
+// below 2^63, and this one, the library's, branches and misses the desk's bar.
 fn rank_by_branches(keys: &[u64], key: u64) -> usize
     requires { Ordered 0 keys.now }
     ensures { result ≡ rank_of key keys.now }
