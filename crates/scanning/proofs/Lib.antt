@@ -2,3 +2,4 @@
 pub mod Completing
 pub mod Ends
 pub mod Parts
+pub mod Steps

@@ -6,12 +6,14 @@
 #![tactic(auto)]
 
 mod quick;
+mod reader;
 
 ghost use Rattle.scanning.specs.Scan.{Scans};
 
 use lines::{LF, find_byte};
 use quick::quick_step;
 use quick_words::WordTable;
+pub use reader::StepReader;
 use steps::{Step, read_step};
 
 // The step of a line, if it is one, and the place where the line ends: at its LF, or at the end of the text.
