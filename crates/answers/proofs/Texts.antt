@@ -2,7 +2,7 @@
 use mathlib.Core.Path.{◌≡◌, refl, ap, ◌∙◌}
 use mathlib.Core.Bool.{cond}
 use mathlib.Core.List.{List, [], ◌∷◌, ◌++◌, append_assoc}
-use Prim.Native.Nat.{ℕ, ◌+◌, ◌<◌}
+use Prim.Native.Nat.{ℕ, ◌+◌, ◌-◌, ◌<◌}
 use native.Mathlib.Omega.{arith}
 use lib.Dec.{eqb}
 use lib.ListN.{length, get_or, take, drop, length-append}
@@ -16,6 +16,7 @@ use Rattle.std.specs.Prelude.{Option, Some, None}
 use Rattle.digits.proofs.Laws.{none_digits}
 use Rattle.numbers.proofs.Theorems.{every_number}
 use Rattle.records.specs.Record.{field_text, record_text}
+use Rattle.refusals.specs.Refusal.{refusal_number}
 use Rattle.refusals.specs.declared.Refusal.{Refusal}
 use Rattle.refusals.specs.declared.Refusal.TheVariants.{
   Malformed,
@@ -38,7 +39,7 @@ use Rattle.cue_texts.specs.CueText.{cue_body, cue_text}
 use Rattle.cue_texts.proofs.Theorems.{body_then_lf, cue_line_no_lf}
 use Rattle.answers.specs.declared.Answer.{Answer}
 use Rattle.answers.specs.declared.Answer.TheVariants.{Ok, Yes, No, Empty, Cue, Left, Refused}
-use Rattle.answers.specs.Answer.{row_text, refusal_text, answer_text}
+use Rattle.answers.specs.Answer.{refusal_text, answer_text}
 use Rattle.answers.specs.Theorems.{Fits, AnswerFits}
 
 -- ---- a number, and what stands behind the byte that ends it
@@ -91,52 +92,26 @@ cue_back_lem c f =
     λ i. record { time = t i; «module» = u i; pin = v i }
 
 -- ---- a refusal
-abbrev row_back : ℕ → Refusal
-row_back n =
-    cond (eqb n 1) Malformed
-    (cond (eqb n 2) TransactionOutOfRange
-    (cond (eqb n 3) AlreadyBegun
-    (cond (eqb n 4) NotBegun
-    (cond (eqb n 5) Aborting
-    (cond (eqb n 6) NotAborting
-    (cond (eqb n 7) CueOutOfRange
-    (cond (eqb n 9) LocksFull
-    (cond (eqb n 10) UndoLogFull
-    (cond (eqb n 11) ScriptFull
-    (cond (eqb n 12) QueueFull
-    (cond (eqb n 13) TextTooLong
-    BufferTooShort)))))))))))
+-- by its row; 8 stands for itself, and is read otherwise
+abbrev rows : List Refusal
+rows =
+    Malformed ∷ TransactionOutOfRange ∷ AlreadyBegun ∷ NotBegun ∷ Aborting ∷ NotAborting ∷ CueOutOfRange ∷ Blocked 0
+    ∷ LocksFull ∷ UndoLogFull ∷ ScriptFull ∷ QueueFull ∷ TextTooLong ∷ []
 
 -- a comma behind the first digit: 8, and the edit in the way
 abbrev refusal_back : List ℕ → Refusal
-refusal_back l = cond (eqb (get_or l 1 0) 44) (Blocked (number_to 10 (drop 2 l))) (row_back (number_to 10 l))
-
-eight : digits_of 8 ≡ 56 ∷ []
-unfolding digits_at
-eight = refl
+refusal_back l = cond (eqb (get_or l 1 0) 44) (Blocked (number_to 10 (drop 2 l))) (get_or rows (number_to 10 l - 1) BufferTooShort)
 
 blocked_fields : (e : ℕ) → refusal_text (Blocked e) ≡ bytes "refused,8," ++ (digits_of e ++ 10 ∷ [])
-unfolding refusal_text record_text
-blocked_fields e = rw eight
+unfolding refusal_text record_text digits_at
+blocked_fields e = refl
 
 refusal_back_lem : (r : Refusal) → ((e : ℕ) → r ≡ Blocked e → Fits e) → refusal_back (drop 8 (refusal_text r)) ≡ r
 unfolding refusal_text digits_at value_from up_to
 refusal_back_lem (Blocked e) f =
     ap (λ (l : List ℕ). refusal_back (drop 8 l)) (blocked_fields e)
     ∙ ap Blocked (number_back 10 e [] (omega arith) (f e refl))
-refusal_back_lem Malformed f = refl
-refusal_back_lem TransactionOutOfRange f = refl
-refusal_back_lem AlreadyBegun f = refl
-refusal_back_lem NotBegun f = refl
-refusal_back_lem Aborting f = refl
-refusal_back_lem NotAborting f = refl
-refusal_back_lem CueOutOfRange f = refl
-refusal_back_lem LocksFull f = refl
-refusal_back_lem UndoLogFull f = refl
-refusal_back_lem ScriptFull f = refl
-refusal_back_lem QueueFull f = refl
-refusal_back_lem TextTooLong f = refl
-refusal_back_lem BufferTooShort f = refl
+refusal_back_lem _ f = refl
 
 -- ---- an answer, by the first byte of its line
 abbrev pub answer_back : List ℕ → Answer
@@ -152,28 +127,13 @@ answer_back l =
 refused_first : (r : Refusal) → get_or (refusal_text r) 0 0 ≡ 114
 unfolding refusal_text record_text
 refused_first (Blocked e) = refl
-refused_first Malformed = refl
-refused_first TransactionOutOfRange = refl
-refused_first AlreadyBegun = refl
-refused_first NotBegun = refl
-refused_first Aborting = refl
-refused_first NotAborting = refl
-refused_first CueOutOfRange = refl
-refused_first LocksFull = refl
-refused_first UndoLogFull = refl
-refused_first ScriptFull = refl
-refused_first QueueFull = refl
-refused_first TextTooLong = refl
-refused_first BufferTooShort = refl
+refused_first _ = refl
 
 pub answer_back_lem : (a : Answer) → AnswerFits a → answer_back (answer_text a) ≡ a
-answer_back_lem Ok f = refl
-answer_back_lem Yes f = refl
-answer_back_lem No f = refl
-answer_back_lem Empty f = refl
 answer_back_lem (Cue c) f = ap Cue (cue_back_lem c f)
 answer_back_lem (Left n) f = ap Left (number_back 10 n [] (omega arith) f)
 answer_back_lem (Refused r) f = rw (refused_first r) (ap Refused (refusal_back_lem r f))
+answer_back_lem _ f = refl
 
 -- ---- the LF at the end of a line
 ends_line : (d : List ℕ) → up_to 10 d ≡ length d → up_to 10 (d ++ 10 ∷ []) + 1 ≡ length (d ++ 10 ∷ [])
@@ -185,35 +145,16 @@ digits_line w n e =
     rw (← append_assoc w (digits_of n) (10 ∷ []))
     (ends_line (w ++ digits_of n) (none_append 10 w (digits_of n) e (none_digits 10 19 n (omega arith))))
 
-row_line : (n : ℕ) → up_to 10 (row_text n) + 1 ≡ length (row_text n)
-unfolding up_to
-row_line n = digits_line (bytes "refused,") n refl
-
 refusal_line : (r : Refusal) → up_to 10 (refusal_text r) + 1 ≡ length (refusal_text r)
 unfolding refusal_text up_to
 refusal_line (Blocked e) = rw (blocked_fields e) (digits_line (bytes "refused,8,") e refl)
-refusal_line Malformed = row_line 1
-refusal_line TransactionOutOfRange = row_line 2
-refusal_line AlreadyBegun = row_line 3
-refusal_line NotBegun = row_line 4
-refusal_line Aborting = row_line 5
-refusal_line NotAborting = row_line 6
-refusal_line CueOutOfRange = row_line 7
-refusal_line LocksFull = row_line 9
-refusal_line UndoLogFull = row_line 10
-refusal_line ScriptFull = row_line 11
-refusal_line QueueFull = row_line 12
-refusal_line TextTooLong = row_line 13
-refusal_line BufferTooShort = row_line 14
+refusal_line r = digits_line (bytes "refused,") (refusal_number r) refl
 
 pub answer_line : (a : Answer) → up_to 10 (answer_text a) + 1 ≡ length (answer_text a)
 unfolding up_to
-answer_line Ok = refl
-answer_line Yes = refl
-answer_line No = refl
-answer_line Empty = refl
 answer_line (Cue c) =
     rw (body_then_lf c)
     (ends_line (bytes "cue," ++ cue_body c) (none_append 10 (bytes "cue,") (cue_body c) refl (cue_line_no_lf c)))
 answer_line (Left n) = digits_line (bytes "left,") n refl
 answer_line (Refused r) = refusal_line r
+answer_line _ = refl

@@ -34,6 +34,7 @@ fn push_refusal(line: &mut LineBuffer, refusal: Refusal)
     line.push_bytes(b"refused,");
     if let Refusal::Blocked(e) = refusal {
         line.push_field(8, b',');
+        // A `usize` has no `From` into `u64`.
         line.push_field(e as u64, b'\n');
     } else {
         line.push_field(refusal.number(), b'\n');
@@ -56,6 +57,7 @@ pub fn answer_line(answer: Answer) -> LineBuffer
         }
         Answer::Left(n) => {
             line.push_bytes(b"left,");
+            // A `usize` has no `From` into `u64`.
             line.push_field(n as u64, b'\n');
         }
         Answer::Refused(refusal) => push_refusal(&mut line, refusal),

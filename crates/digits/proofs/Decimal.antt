@@ -2,10 +2,10 @@
 use Rattle.std.proofs.Common.{◌≡◌, ℕ, zero, suc, ◌+◌, ◌/◌, ◌%◌, ◌^◌, ◌<◌, ◌≤◌, ◌∷◌, [], ◌++◌, length, decimal, arith, sym, ap, ◌∙◌}
 use mathlib.Core.Logic.{⊎_elim}
 use native.Mathlib.Nat.{pow-suc}
-use Rattle.std.proofs.lemmas.Fmt.{decimal_digit, decimal_step, length-decimal-le}
+use Rattle.std.proofs.lemmas.Fmt.{decimal_digit, decimal_step}
 use Rattle.lines.proofs.Laws.{lt_or_ge}
 use Rattle.digits.specs.Digits.{digits_at, digits_of}
-use Rattle.digits.proofs.Laws.{digits_small, digits_step}
+use Rattle.digits.proofs.Laws.{digits_bounded, digits_small, digits_step}
 
 decimal_at : (k n : ℕ) → n < 10 ^ suc k → n < 2 ^ 64 → decimal n ≡ digits_at k n
 decimal_at zero n h w = decimal_digit n (omega arith) ∙ sym (digits_small zero n (omega arith))
@@ -21,5 +21,5 @@ decimal_at (suc k) n h w =
 pub decimal_digits : (n : ℕ) → n < 2 ^ 64 → decimal n ≡ digits_of n
 decimal_digits n w = decimal_at 19 n (omega arith) w
 
-pub digits_in_room : (n : ℕ) → n < 2 ^ 64 → length (digits_of n) ≤ 20
-digits_in_room n w = omega (arith, ap length (decimal_digits n w), length-decimal-le 20 n (omega arith) (omega arith) w)
+pub digits_in_room : (n : ℕ) → length (digits_of n) ≤ 20
+digits_in_room n = digits_bounded 19 n

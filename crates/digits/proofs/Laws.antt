@@ -1,5 +1,5 @@
 -- Laws of the digits of a number: which they are, how many, and which comes first. Assumes nothing.
-use mathlib.Core.Path.{◌≡◌, refl, sym, ap, ◌∙◌}
+use mathlib.Core.Path.{◌≡◌, sym, ap, ◌∙◌}
 use mathlib.Core.Bool.{Bool, true, false, cond}
 use mathlib.Core.List.{List, [], ◌∷◌, ◌++◌}
 use mathlib.Core.Logic.{⊎_elim}
@@ -14,10 +14,6 @@ use Rattle.lines.proofs.Laws.{lt_or_ge, none_one, none_append}
 use Rattle.digits.specs.Digits.{digits_at, digits_of}
 
 -- each law takes the code's tests as premises
-pub digits_last : (k n : ℕ) → k ≡ 0 → digits_at k n ≡ (48 + n % 10) ∷ []
-unfolding digits_at
-digits_last k n e = rw e
-
 pub digits_small : (k n : ℕ) → n < 10 → digits_at k n ≡ (48 + n) ∷ []
 unfolding digits_at
 digits_small zero n h = rw (mod-eq_of_lt h)
@@ -51,17 +47,30 @@ none_digits sep (suc k) n h = by_test (ltb n 10) (none_digits sep k (n / 10) h)
     by_test true e = digit_one sep n h
     by_test false e = none_append sep (digits_at k (n / 10)) ((48 + n % 10) ∷ []) e (digit_one sep (n % 10) h)
 
+-- the length of one digit more
+longer : (k n : ℕ) → 10 ≤ n → length (digits_at (suc k) n) ≡ length (digits_at k (n / 10)) + 1
+longer k n l = ap length (digits_step k n l) ∙ length-append (digits_at k (n / 10)) ((48 + n % 10) ∷ [])
+
+-- there is room for at most so many
+pub digits_bounded : (k n : ℕ) → length (digits_at k n) ≤ suc k
+unfolding digits_at
+digits_bounded zero n = omega arith
+digits_bounded (suc k) n =
+    ⊎_elim
+    (λ l. omega (arith, ap length (digits_small (suc k) n l)))
+    (λ l. omega (arith, longer k n l, digits_bounded k (n / 10)))
+    (lt_or_ge n 10)
+
 -- a number below a power of ten has no more digits than that
 pub digits_at_most : (j k n : ℕ) → n < 10 ^ suc j → length (digits_at k n) ≤ suc j
 digits_at_most zero k n h = omega (arith, ap length (digits_small k n h))
-digits_at_most (suc j) zero n h = omega (arith, ap length (digits_last 0 n refl))
+digits_at_most (suc j) zero n h = omega (arith, digits_bounded 0 n)
 digits_at_most (suc j) (suc k) n h =
     ⊎_elim
     (λ l. omega (arith, ap length (digits_small (suc k) n l)))
     (λ l.
     let p = pow-suc 10 (suc j) in
-    let r = digits_at_most j k (n / 10) (omega arith) in
-    omega (arith, ap length (digits_step k n l) ∙ length-append (digits_at k (n / 10)) ((48 + n % 10) ∷ [])))
+    omega (arith, longer k n l, digits_at_most j k (n / 10) (omega arith)))
     (lt_or_ge n 10)
 
 -- a leading 0 is that of 0

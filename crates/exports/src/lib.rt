@@ -17,7 +17,7 @@ fn answer_number(written: Result<usize, Refusal>) -> u64
     ensures { result ≡ answer_number written }
 {
     match written {
-        // `as`: a `usize` has no `From` into `u64`, and C gets 64 bits.
+        // A `usize` has no `From` into `u64`.
         Ok(end) => end as u64,
         Err(refusal) => 4294967296 + refusal.number(),
     }

@@ -107,19 +107,7 @@ refusal_at_most (Blocked e) =
       digits_bounded 19 8,
       digits_bounded 19 e,
     )
-refusal_at_most MalformedLine = omega arith
-refusal_at_most TransactionOutOfRange = omega arith
-refusal_at_most AlreadyBegun = omega arith
-refusal_at_most NotBegun = omega arith
-refusal_at_most Aborting = omega arith
-refusal_at_most NotAborting = omega arith
-refusal_at_most CueOutOfRange = omega arith
-refusal_at_most LocksFull = omega arith
-refusal_at_most UndoLogFull = omega arith
-refusal_at_most ScriptFull = omega arith
-refusal_at_most QueueFull = omega arith
-refusal_at_most TextTooLong = omega arith
-refusal_at_most BufferTooShort = omega arith
+refusal_at_most _ = omega arith
 
 left_at_most : (n : ℕ) → length (answer_text (Left n)) ≤ 40
 left_at_most n =
@@ -134,11 +122,8 @@ cue_at_most k =
     omega (arith, text_length c, field_length c.time 44, field_length c.«module» 44, field_length c.pin 10)
 
 reply_at_most : (r : Reply) → length (answer_text (answer_of r)) ≤ 40
-reply_at_most is_yes = omega arith
-reply_at_most is_no = omega arith
-reply_at_most is_ok = omega arith
-reply_at_most is_empty = omega arith
 reply_at_most (is_cue k) = omega (arith, length-append (bytes "cue,") (cue_text (cue_of k)), cue_at_most k)
+reply_at_most _ = omega arith
 
 unwound_at_most : (d : Store) (e : ℕ) (log : List Entry) → length (answer_text (undo_newest d e log).answer) ≤ 40
 unwound_at_most d e [] = left_at_most 0
@@ -162,24 +147,11 @@ unfolding step_on
 stepped_at_most d None = refusal_at_most MalformedLine
 stepped_at_most d (Some q) = decided_at_most (refusal_of d (Some q)) d q.transaction q.action
 
--- every answer line is short
-pub line_at_most : (d : Store) (l : List ℕ) → length (answer_text (step_line d l).answer) ≤ 40
-unfolding step_line
-line_at_most d l = stepped_at_most d (request_of (step_of l))
-
 number_word_long : (w : NumberWord) → 3 ≤ length (number_word w)
-number_word_long Begin = omega arith
-number_word_long Min = omega arith
-number_word_long Take = omega arith
-number_word_long Commit = omega arith
-number_word_long Undo = omega arith
-number_word_long Back = omega arith
+number_word_long _ = omega arith
 
 cue_word_long : (w : CueWord) → 3 ≤ length (cue_word w)
-cue_word_long Add = omega arith
-cue_word_long Remove = omega arith
-cue_word_long Has = omega arith
-cue_word_long Push = omega arith
+cue_word_long _ = omega arith
 
 -- a line that is a step has four bytes and more
 step_long : (s : Step) → 4 ≤ length (step_text s)

@@ -2,6 +2,6 @@ pub mod Answers
 pub mod Examples
 pub mod Fitting
 pub mod Outcomes
-pub mod Passing
+pub mod Parts
 pub mod Texts
 pub mod Theorems

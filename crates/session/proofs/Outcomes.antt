@@ -1,5 +1,6 @@
 -- What is printed, by the outcome of the start text. Assumes nothing.
 use mathlib.Core.Path.{◌≡◌, refl, sym, ap, ◌∙◌}
+use mathlib.Core.Bool.{Bool, true}
 use mathlib.Core.List.{List, ◌++◌}
 use Prim.Native.Nat.{ℕ, ◌+◌, ◌-◌, ◌≤◌, ◌<◌}
 use native.Mathlib.Omega.{arith}
@@ -30,7 +31,8 @@ use Rattle.closing_lists.specs.Closing.{closing_text}
 use Rattle.store.specs.Answering.{opening}
 use Rattle.session.specs.Output.{answer_lines, recovered, run_text, start_refused, output_with, output_of}
 use Rattle.session.specs.Started.{Running}
-use Rattle.session.proofs.Fitting.{run_length, refused_length}
+use Rattle.session.specs.Printing.{HasRoom}
+use Rattle.session.proofs.Fitting.{output_fits}
 
 -- ---- the three cases
 pub output_long : (s : List ℕ) → 65536 < length s → start_refused TextTooLong 0 ≡ output_of s
@@ -79,43 +81,17 @@ part_prints d input from v =
     let n : length (drop from input) ≤ length input - from = omega (arith, length-drop from input) in
     ap (λ (x : List ℕ). run_text d (lines_of x)) (take_all (length input - from) (drop from input) n) ∙ v.prints
 
--- ---- the refused start
-pub refused_text : (r : Refusal) (line n : ℕ) → n ≡ refusal_number r
-    → record_text (bytes "start") n line ≡ start_refused r line
-refused_text r line n e = ap (λ (m : ℕ). record_text (bytes "start") m line) e
-
-pub refused_counted : (r : Refusal) (line n a b : ℕ) → n ≡ refusal_number r → a ≡ length (digits_of n)
-    → b ≡ length (digits_of line) → 8 + a + b ≡ length (start_refused r line)
-refused_counted r line n a b en ea eb =
-    let q : length (digits_of n) ≡ length (digits_of (refusal_number r)) = ap (λ (m : ℕ). length (digits_of m)) en in
-    omega (arith, refused_length r line)
-
--- ---- the store after all steps, and recovered
-pub recovered-state : (d d₁ d₂ : Store) (ls : List (List ℕ)) → d₁ ≡ (run d ls).store → d₂ ≡ recover d₁ rising
-    → d₂.state ≡ (recovered d ls).state
-recovered-state d d₁ d₂ ls e₁ e₂ =
-    ap (λ (x : Store). x.state) (e₂ ∙ ap (λ (x : Store). recover x rising) e₁)
-
-pub run_text_lem : (d d₁ d₂ : Store) (ls : List (List ℕ)) → d₁ ≡ (run d ls).store → d₂ ≡ recover d₁ rising
-    → answer_lines d ls ++ closing_text d₂.state ≡ run_text d ls
+-- ---- the answers of a run, and behind them the closing lists of the store that is recovered
+pub run_parts : (d : Store) (ls : List (List ℕ)) → run_text d ls ≡ answer_lines d ls ++ closing_text (recovered d ls).state
 unfolding run_text
-run_text_lem d d₁ d₂ ls e₁ e₂ =
-    ap (λ (x : State). answer_lines d ls ++ closing_text x) (recovered-state d d₁ d₂ ls e₁ e₂)
+run_parts d ls = refl
 
-pub run_counted : (d d₁ d₂ : Store) (ls : List (List ℕ)) (m n : ℕ) → d₁ ≡ (run d ls).store → d₂ ≡ recover d₁ rising
-    → m ≡ length (answer_lines d ls) → n ≡ length (closing_text d₂.state) → m + n ≡ length (run_text d ls)
-run_counted d d₁ d₂ ls m n e₁ e₂ em en =
-    let q = ap (λ (x : State). length (closing_text x)) (recovered-state d d₁ d₂ ls e₁ e₂) in
-    omega (arith, run_length d ls, q)
+pub run_parted : (d d₁ d₂ : Store) (ls : List (List ℕ)) (s : State) → d₁ ≡ (run d ls).store → d₂ ≡ recover d₁ rising
+    → s ≡ d₂.state → run_text d ls ≡ answer_lines d ls ++ closing_text s
+run_parted d d₁ d₂ ls s e₁ e₂ e = run_parts d ls ∙ rw (e, e₂, e₁)
 
--- a writer of the closing lists behind the answers gives the whole
-pub written_behind : (buf mid after u v all : List ℕ) (r : Result ℕ Refusal) (middle : ℕ) → all ≡ u ++ v
-    → length all ≤ length buf → Put buf 0 u middle mid → (r, after) ≡ written_at mid middle v
-    → (r, after) ≡ written_at buf 0 all
-written_behind buf mid after u v all r middle q h p w =
-    let n : 0 + length all ≤ length buf = omega arith in
-    let b = written_back r mid after v middle (rest_fits buf u v all 0 q mid middle p n) w in
-    let d : (Ok (middle + length v), after) ≡ written_at buf 0 all =
-    written buf after all 0 (middle + length v) n (rest_ends buf u v all 0 q mid middle p)
-    (b.1 ∙ rest_stored buf u v all 0 q mid middle p) in
-    (λ i. (b.0 i, after)) ∙ d
+-- ---- the room for an output
+pub output_room : (keep : Bool) (buf s text : List ℕ) → (keep ≡ true → length (output_of s) ≤ length buf)
+    → text ≡ output_of s → HasRoom keep buf 0 text
+output_room keep buf s text h e =
+    rw e (record { in_count = omega (arith, output_fits s); in_buffer = λ k. omega (arith, h k) })

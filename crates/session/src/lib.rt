@@ -6,6 +6,7 @@
 #![tactic(auto)]
 
 mod answering;
+mod printing;
 mod running;
 mod starting;
 

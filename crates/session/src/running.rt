@@ -1,48 +1,40 @@
 // A whole session: the store started, stepped and recovered, and what it prints.
-ghost use Rattle.std.specs.Prelude.{◌≡◌, ◌≤◌, length};
+ghost use Rattle.std.specs.Prelude.{◌≡◌, true, ◌≤◌, length};
 ghost use Rattle.buffers.specs.Written.{written_at};
 ghost use Rattle.lines.specs.Lines.{lines_of};
 ghost use Rattle.session.specs.Output.{run_text, output_of};
+ghost use Rattle.session.specs.Printing.{HasRoom, Printed};
 
-use crate::answering::{answers_length, put_answers};
-use crate::starting::{refused_length, start_session, write_refused};
-use closing_lists::{closing_length, write_closing};
+use crate::answering::answer_lines;
+use crate::printing::{put_closing, put_refused};
+use crate::starting::start_session;
 use refusals::Refusal;
 use store::Store;
 
 // As many bytes hold the output of every input.
 pub const ROOM: usize = 659860;
 
-// Steps through the lines, recovers, and writes the answers and the closing lists to the front of the buffer, where
-// they fit.
-fn write_run(buf: &mut [u8], store: &mut Store, text: &[u8]) -> Result<usize, Refusal>
-    requires { length (run_text store.old (lines_of text.now)) ≤ length buf.old }
-    ensures { (result, buf.new) ≡ written_at buf.old 0 (run_text store.old (lines_of text.now)) }
+// Steps through the lines and recovers: the place behind the answers and the closing lists.
+fn run_steps(buf: &mut [u8], keep: bool, store: &mut Store, text: &[u8]) -> usize
+    requires { HasRoom keep buf.old 0 (run_text store.old (lines_of text.now)) }
+    ensures { Printed keep buf.old 0 (run_text store.old (lines_of text.now)) result buf.new }
 {
-    let middle = put_answers(buf, store, text);
+    let end = answer_lines(buf, keep, store, text);
     store.recover();
-    write_closing(buf, middle, store.object())
+    put_closing(buf, keep, end, store.object())
 }
 
-// How many bytes that are.
-fn run_length(store: &mut Store, text: &[u8]) -> usize
-    requires { length text.now ≤ 65536 }
-    ensures { result ≡ length (run_text store.old (lines_of text.now)) }
-{
-    let sum = answers_length(store, text);
-    store.recover();
-    sum + closing_length(store.object())
-}
-
-// Writes the whole output of an input to the front of the buffer, where it fits.
-fn write_session(buf: &mut [u8], input: &[u8]) -> Result<usize, Refusal>
-    requires { length (output_of input.now) ≤ length buf.old }
-    ensures { (result, buf.new) ≡ written_at buf.old 0 (output_of input.now) }
+// Runs the session of an input, and puts what it prints at the front of the buffer, where it is kept: how many bytes
+// all of it has. One function for both, so that the engine is compiled once.
+#[inline(never)]
+fn play(buf: &mut [u8], keep: bool, input: &[u8]) -> usize
+    requires { keep ≡ true → length (output_of input.now) ≤ length buf.old }
+    ensures { Printed keep buf.old 0 (output_of input.now) result buf.new }
 {
     let mut store = Store::new();
     match start_session(&mut store, input) {
-        Ok(from) => write_run(buf, &mut store, &input[from..]),
-        Err(refused) => write_refused(buf, refused),
+        Ok(from) => run_steps(buf, keep, &mut store, &input[from..]),
+        Err(refused) => put_refused(buf, keep, refused),
     }
 }
 
@@ -50,11 +42,7 @@ fn write_session(buf: &mut [u8], input: &[u8]) -> Result<usize, Refusal>
 pub fn session_length(input: &[u8]) -> usize
     ensures { result ≡ length (output_of input.now) }
 {
-    let mut store = Store::new();
-    match start_session(&mut store, input) {
-        Ok(from) => run_length(&mut store, &input[from..]),
-        Err(refused) => refused_length(refused),
-    }
+    play(&mut [], false, input)
 }
 
 // Writes what the program prints for an input to the front of the buffer, if it fits there. A buffer of `ROOM` bytes
@@ -65,5 +53,5 @@ pub fn run_session(buf: &mut [u8], input: &[u8]) -> Result<usize, Refusal>
     if buf.len() < ROOM && buf.len() < session_length(input) {
         return Err(Refusal::BufferTooShort);
     }
-    write_session(buf, input)
+    Ok(play(buf, true, input))
 }

@@ -1,12 +1,7 @@
-// The start of a session: the store opened with the start script of the input; or the line that says why it is not.
-ghost use Rattle.std.specs.Prelude.{◌≡◌, length};
-ghost use Rattle.buffers.specs.Written.{written_at};
-ghost use Rattle.session.specs.Output.{start_refused};
+// The start of a session: the store opened with the start script of the input, or why it is not.
 ghost use Rattle.session.specs.Started.{Started};
 
-use digits::digit_count;
 use inputs::{find_steps, steps_from};
-use records::write_record;
 use refusals::{Refusal, RefusedText};
 use store::Store;
 
@@ -27,24 +22,4 @@ pub fn start_session(store: &mut Store, input: &[u8]) -> Result<usize, RefusedTe
     let at = find_steps(input);
     store.open(&input[..at])?;
     Ok(steps_from(input, at))
-}
-
-// Writes the line `start,n,line` of a refused start to the front of the buffer, if it fits there.
-pub fn write_refused(buf: &mut [u8], refused: RefusedText) -> Result<usize, Refusal>
-    ensures { (result, buf.new) ≡ written_at buf.old 0 (start_refused refused.refusal refused.line) }
-{
-    write_record(
-        buf,
-        0,
-        b"start",
-        refused.refusal.number(),
-        refused.line as u64,
-    )
-}
-
-// How many bytes that line has.
-pub fn refused_length(refused: RefusedText) -> usize
-    ensures { result ≡ length (start_refused refused.refusal refused.line) }
-{
-    8 + digit_count(refused.refusal.number()) + digit_count(refused.line as u64)
 }

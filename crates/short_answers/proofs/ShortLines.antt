@@ -1,37 +1,19 @@
 -- Laws of short lines: a word and a last number of one digit behind it. Assumes nothing.
-use mathlib.Core.Path.{◌≡◌, refl, sym, ap, ◌∙◌}
+use mathlib.Core.Path.{◌≡◌, sym, ap, ◌∙◌}
 use mathlib.Core.List.{List, [], ◌∷◌, ◌++◌}
 use Prim.Native.Nat.{ℕ, ◌+◌, ◌≤◌, ◌<◌}
 use native.Mathlib.Omega.{arith}
 use native.Mathlib.Numerals.{unary_clauses}
 use lib.ListN.{length, length-append, set}
 use lib.Seq.{sets, sets-eq, length-sets}
-use Rattle.std.specs.Prelude.{Result, Ok}
+use Rattle.std.specs.Prelude.{Result}
 use Rattle.std.specs.Result.{result_unwrap_or}
 use Rattle.refusals.specs.declared.Refusal.{Refusal}
-use Rattle.buffers.specs.Put.{Put}
-use Rattle.buffers.specs.Written.{placed, written_at}
+use Rattle.buffers.specs.Written.{placed}
 use Rattle.buffers.proofs.Laws.{sets-append, written}
-use Rattle.lines.specs.Ascii.{bytes}
-use Rattle.digits.specs.Digits.{digits_at}
 use Rattle.digits.proofs.Laws.{digits_small}
-use Rattle.records.specs.Record.{field_text, record_text}
+use Rattle.records.specs.Record.{field_text}
 use Rattle.short_answers.specs.Appended.{appended_at}
-
--- what a writer leaves is what appending leaves
-appended : (buf mid text : List ℕ) (at : ℕ) (w : Result ℕ Refusal) → (w, mid) ≡ written_at buf at text
-    → (result_unwrap_or w at, mid) ≡ appended_at buf at text
-appended buf mid text at w e = ap (λ (p : Result ℕ Refusal × List ℕ). (result_unwrap_or p.0 at, p.1)) e
-
--- where there is room, the text is put there
-pub appended_put : (buf mid text : List ℕ) (at end : ℕ) → at + length text ≤ length buf
-    → (end, mid) ≡ appended_at buf at text → Put buf at text end mid
-appended_put buf mid text at end h e =
-    let w : ◌≡◌ {A = Result ℕ Refusal × List ℕ} (Ok (at + length text), sets buf at text) (written_at buf at text) =
-    written buf (sets buf at text) text at (at + length text) h refl refl in
-    let q : ◌≡◌ {A = ℕ × List ℕ} (end, mid) (at + length text, sets buf at text) =
-    e ∙ sym (appended buf (sets buf at text) text at (Ok (at + length text)) w) in
-    record { place = ap (λ (p : ℕ × List ℕ). p.0) q; stored = ap (λ (p : ℕ × List ℕ). p.1) q }
 
 -- the number's one digit
 pub one_digit : (n b : ℕ) → n < 10 → field_text n b ≡ (48 + n) ∷ b ∷ []
@@ -48,21 +30,16 @@ end_stored buf at n h d =
     ∙ ap (λ (l : List ℕ). placed buf at (44 ∷ l)) (sym (one_digit n 10 d)))
 
 -- a word and a last number of one digit
-pub digit_line : (buf m₁ m₂ word : List ℕ) (at n : ℕ) → at + 12 ≤ length buf → length word ≤ 9 → n < 10
-    → m₁ ≡ placed buf at word → m₂ ≡ placed m₁ (at + length word) (44 ∷ field_text n 10)
-    → (at + (length word + 3), m₂) ≡ appended_at buf at (word ++ 44 ∷ field_text n 10)
-digit_line buf m₁ m₂ word at n h w d e₁ e₂ =
+pub digit_line : (buf m₁ m₂ word : List ℕ) (at n k : ℕ) → length word ≡ k → at + 12 ≤ length buf → k ≤ 9
+    → n < 10 → m₁ ≡ placed buf at word → m₂ ≡ placed m₁ (at + k) (44 ∷ field_text n 10)
+    → (at + k + 3, m₂) ≡ appended_at buf at (word ++ 44 ∷ field_text n 10)
+digit_line buf m₁ m₂ word at n k ek h w d e₁ e₂ =
     let number = 44 ∷ field_text n 10 in
     let l = ap length (one_digit n 10 d) in
     let a = length-append word number in
     let s₁ : m₁ ≡ sets buf at word = e₁ ∙ sym (sets-eq word buf at (omega arith)) in
     let room : length m₁ ≡ length buf = ap length s₁ ∙ length-sets buf at word in
-    let s₂ : m₂ ≡ sets m₁ (at + length word) number = e₂ ∙ sym (sets-eq number m₁ (at + length word) (omega arith)) in
-    let all : m₂ ≡ sets buf at (word ++ number) = s₂ ∙ rw s₁ (sym (sets-append word number buf at)) in
-    appended buf m₂ (word ++ number) at (Ok (at + (length word + 3)))
-    (written buf m₂ (word ++ number) at (at + (length word + 3)) (omega arith) (omega arith) all)
-
--- `refused,8` is the word of a refusal 8 (56 is the digit)
-pub blocked_line : (e : ℕ) → record_text (bytes "refused") 8 e ≡ bytes "refused,8" ++ 44 ∷ field_text e 10
-unfolding record_text digits_at
-blocked_line e = refl
+    let s₂ : m₂ ≡ sets m₁ (at + k) number = e₂ ∙ sym (sets-eq number m₁ (at + k) (omega arith)) in
+    let all : m₂ ≡ sets buf at (word ++ number) = s₂ ∙ rw (s₁, ← ek) (sym (sets-append word number buf at)) in
+    ap (λ (p : Result ℕ Refusal × List ℕ). (result_unwrap_or p.0 at, p.1))
+    (written buf m₂ (word ++ number) at (at + k + 3) (omega arith) (omega arith) all)

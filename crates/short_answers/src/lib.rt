@@ -33,10 +33,23 @@ fn put_last_digit(buf: &mut [u8], at: usize, n: u64)
     requires one_digit { n < 10 }
     ensures { buf.new ≡ placed buf.old at (44 ∷ field_text n 10) }
 {
-    // Three stores: a short array of them would be read back before it is stored.
+    // `u8::try_from` would have an error to handle, which a number below 10 has not. Three stores: a
+    // short array of them would be read back before it is stored.
     buf[at] = b',';
     buf[at + 1] = b'0' + n as u8;
     buf[at + 2] = b'\n';
+}
+
+// Appends a word and the last number of its line, of one digit, where twelve bytes fit.
+fn append_digit<const N: usize>(buf: &mut [u8], at: usize, word: &[u8; N], n: u64) -> usize
+    requires has_room { at + 12 ≤ length buf.old }
+    requires short { N ≤ 9 }
+    requires one_digit { n < 10 }
+    ensures { (result, buf.new) ≡ appended_at buf.old at (word.now ++ 44 ∷ field_text n 10) }
+{
+    put_bytes(buf, at, word);
+    put_last_digit(buf, at + N, n);
+    at + N + 3
 }
 
 // Appends the line `left,n` with its LF where twelve bytes fit.
@@ -45,9 +58,7 @@ fn append_left(buf: &mut [u8], at: usize, n: u64) -> usize
     ensures { (result, buf.new) ≡ appended_at buf.old at (bytes "left," ++ field_text n 10) }
 {
     if n < 10 {
-        put_bytes(buf, at, b"left");
-        put_last_digit(buf, at + 4, n);
-        return at + 7;
+        return append_digit(buf, at, b"left", n);
     }
     write_number_line(buf, at, b"left,", n).unwrap_or(at)
 }
@@ -58,22 +69,19 @@ fn append_row(buf: &mut [u8], at: usize, n: u64) -> usize
     ensures { (result, buf.new) ≡ appended_at buf.old at (row_text n) }
 {
     if n < 10 {
-        put_bytes(buf, at, b"refused");
-        put_last_digit(buf, at + 7, n);
-        return at + 10;
+        return append_digit(buf, at, b"refused", n);
     }
     write_number_line(buf, at, b"refused,", n).unwrap_or(at)
 }
 
 // Appends the line `refused,8,e` with its LF where twelve bytes fit.
+#[tactic(auto, unfolding(digits::specs::Digits::digits_at, records::specs::Record::record_text))]
 fn append_blocked(buf: &mut [u8], at: usize, e: u64) -> usize
     requires { at + 12 ≤ length buf.old }
     ensures { (result, buf.new) ≡ appended_at buf.old at (record_text (bytes "refused") 8 e) }
 {
     if e < 10 {
-        put_bytes(buf, at, b"refused,8");
-        put_last_digit(buf, at + 9, e);
-        return at + 12;
+        return append_digit(buf, at, b"refused,8", e);
     }
     write_record(buf, at, b"refused", 8, e).unwrap_or(at)
 }
@@ -85,6 +93,7 @@ fn append_refusal(buf: &mut [u8], at: usize, refusal: Refusal) -> usize
     ensures { (result, buf.new) ≡ appended_at buf.old at (refusal_text refusal) }
 {
     if let Refusal::Blocked(e) = refusal {
+        // A `usize` has no `From` into `u64`.
         return append_blocked(buf, at, e as u64);
     }
     append_row(buf, at, refusal.number())
@@ -114,6 +123,7 @@ fn append_in_room(buf: &mut [u8], at: usize, answer: Answer) -> usize
             at + 6
         }
         Answer::Cue(cue) => write_cue_line(buf, at, cue).unwrap_or(at),
+        // A `usize` has no `From` into `u64`.
         Answer::Left(n) => append_left(buf, at, n as u64),
         Answer::Refused(refusal) => append_refusal(buf, at, refusal),
     }

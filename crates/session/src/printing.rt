@@ -1,0 +1,51 @@
+// What a session prints, part behind part: put into a buffer where it is kept, or only counted.
+//
+// `keep` says which. A text that is counted leaves the buffer alone, which may then be empty.
+ghost use Rattle.answers.specs.Answer.{answer_text};
+ghost use Rattle.closing_lists.specs.Closing.{closing_text};
+ghost use Rattle.session.specs.Output.{start_refused};
+ghost use Rattle.session.specs.Printing.{HasRoom, Printed};
+
+use answers::{Answer, answer_length};
+use closing_lists::{closing_length, write_closing};
+use digits::digit_count;
+use records::write_record;
+use refusals::RefusedText;
+use shared_object::SharedObject;
+use short_answers::append_answer;
+
+// The line of an answer: the place behind it.
+pub fn put_answer(buf: &mut [u8], keep: bool, at: usize, answer: Answer) -> usize
+    requires { HasRoom keep buf.old at (answer_text answer) }
+    ensures { Printed keep buf.old at (answer_text answer) result buf.new }
+{
+    if keep {
+        return append_answer(buf, at, answer);
+    }
+    at + answer_length(answer)
+}
+
+// The closing lists: the place behind them.
+pub fn put_closing(buf: &mut [u8], keep: bool, at: usize, object: &SharedObject) -> usize
+    requires { HasRoom keep buf.old at (closing_text object.now) }
+    ensures { Printed keep buf.old at (closing_text object.now) result buf.new }
+{
+    if keep {
+        return write_closing(buf, at, object).unwrap_or(at);
+    }
+    at + closing_length(object)
+}
+
+// The line `start,n,line` of a refused start: the place behind it.
+pub fn put_refused(buf: &mut [u8], keep: bool, refused: RefusedText) -> usize
+    requires { HasRoom keep buf.old 0 (start_refused refused.refusal refused.line) }
+    ensures { Printed keep buf.old 0 (start_refused refused.refusal refused.line) result buf.new }
+{
+    let number = refused.refusal.number();
+    // A `usize` has no `From` into `u64`.
+    let line = refused.line as u64;
+    if keep {
+        return write_record(buf, 0, b"start", number, line).unwrap_or(0);
+    }
+    8 + digit_count(number) + digit_count(line)
+}
