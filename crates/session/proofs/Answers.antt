@@ -1,20 +1,20 @@
--- Laws of stepping through lines: one line more, its answer in front of the others. Assumes nothing.
-use mathlib.Core.Path.{◌≡◌, refl, sym, ap, ◌∙◌, subst}
+-- Laws of stepping through lines: one line more, its answer in front of the others; and the same by the steps that a
+-- reader gives. Assumes nothing.
+use mathlib.Core.Path.{◌≡◌, refl, sym, ap, ◌∙◌}
 use mathlib.Core.Bool.{Bool}
-use mathlib.Core.List.{List, [], ◌∷◌, ◌++◌, map, map-append, reverse, reverse-append, append_assoc}
-use Prim.Native.Nat.{ℕ, ◌+◌, ◌-◌, ◌≤◌, ◌<◌}
+use mathlib.Core.List.{List, [], ◌∷◌, ◌++◌, map, map-append, reverse-append, append_assoc}
+use Prim.Native.Nat.{ℕ, ◌+◌, ◌≤◌}
 use native.Mathlib.Omega.{arith}
-use lib.ListN.{take, drop, length}
-use Rattle.lines.specs.Lines.{up_to, lines_of}
-use Rattle.lines.proofs.Laws.{lines_next, lines_end}
+use lib.ListN.{length}
+use Rattle.std.specs.Prelude.{Option}
+use Rattle.steps.specs.declared.reading.Step.{Step}
+use Rattle.steps.specs.Step.{step_of}
 use Rattle.answers.specs.Answer.{answer_text}
 use Rattle.answers.specs.declared.Answer.{Answer}
 use Rattle.boosting.specs.Store.{Store}
 use Rattle.boosting.specs.Rows.{request_of}
-use Rattle.boosting.specs.Step.{step_on, step_line}
+use Rattle.boosting.specs.Step.{Out, step_on, step_line}
 use Rattle.boosting.specs.Run.{Event, Run, advance, run_from, run, answer_at}
-use Rattle.scanning.specs.Scan.{Scans}
-use Rattle.scanning.specs.declared.Scanned.{Scanned}
 use Rattle.session.specs.Output.{answers_text, answer_lines}
 use Rattle.session.specs.Printing.{HasRoom, Printed}
 use Rattle.session.proofs.Parts.{first_room, rest_room, both_printed}
@@ -52,59 +52,65 @@ pub nothing_answered : (d : Store) → answer_lines d [] ≡ []
 unfolding answers_text run_from
 nothing_answered d = refl
 
--- ---- the loop through a text: what is left to do gives the whole
+-- ---- a run by the steps of its lines
+abbrev pub out : Store → Option Step → Out
+out d s = step_on d (request_of s)
+
+abbrev pub store_by : Store → List (Option Step) → Store
+store_by d [] = d
+store_by d (s ∷ ss) = store_by (out d s).store ss
+
+abbrev pub lines_by : Store → List (Option Step) → List ℕ
+lines_by d [] = []
+lines_by d (s ∷ ss) = answer_text (out d s).answer ++ lines_by (out d s).store ss
+
+by_steps : (ls : List (List ℕ)) (d : Store)
+    → ((run d ls).store ≡ store_by d (map step_of ls)) × (answer_lines d ls ≡ lines_by d (map step_of ls))
+unfolding step_line run_from
+by_steps [] d = (refl, nothing_answered d)
+by_steps (l ∷ ls) d =
+    let h = by_steps ls (after d l) in
+    (ap (λ (r : Run). r.store) (run_more d l ls) ∙ h.0, lines_answered d l ls ∙ ap (λ (t : List ℕ). answer_text (step_line d l).answer ++ t) h.1)
+
+-- ---- the loop: what is left to do gives the whole
 pub record Left (keep : Bool) (buf₀ : List ℕ) (d₀ : Store) (ls₀ : List (List ℕ)) (buf : List ℕ) (end : ℕ) (d : Store)
-    (ls : List (List ℕ)) : Type 0 where
-  pub room : HasRoom keep buf end (answer_lines d ls)
-  pub store : (run d ls).store ≡ (run d₀ ls₀).store
-  pub printed : (last : ℕ) (after : List ℕ) → Printed keep buf end (answer_lines d ls) last after
+    (ss : List (Option Step)) : Type 0 where
+  pub room : HasRoom keep buf end (lines_by d ss)
+  pub store : store_by d ss ≡ (run d₀ ls₀).store
+  pub printed : (last : ℕ) (after : List ℕ) → Printed keep buf end (lines_by d ss) last after
       → Printed keep buf₀ 0 (answer_lines d₀ ls₀) last after
 
-pub all_left : (keep : Bool) (buf : List ℕ) (d : Store) (ls : List (List ℕ)) → HasRoom keep buf 0 (answer_lines d ls)
-    → Left keep buf d ls buf 0 d ls
-all_left keep buf d ls h = record { room = h; store = refl; printed = λ last after p. p }
+pub all_left : (keep : Bool) (buf : List ℕ) (d : Store) (ls : List (List ℕ)) (ss : List (Option Step))
+    → HasRoom keep buf 0 (answer_lines d ls) → ss ≡ map step_of ls → Left keep buf d ls buf 0 d ss
+all_left keep buf d ls ss h e =
+    let b = by_steps ls d in
+    rw e (record { room = rw (← b.1) h; store = sym b.0; printed = λ last after p. rw b.1 p })
 
-module _ (keep : Bool) (buf₀ : List ℕ) (d₀ : Store) (ls₀ : List (List ℕ)) (buf : List ℕ) (end : ℕ) (d : Store)
-    (s : List ℕ) (at : ℕ) (v : Left keep buf₀ d₀ ls₀ buf end d (lines_of (drop at s))) where
-  -- one line less: that which a scan reads
-  module _ (r : Scanned) (h : at < length s) (q : Scans s at r) where
-    abbrev line : List ℕ
-    line = take (r.end - at) (drop at s)
+module _ (keep : Bool) (buf₀ : List ℕ) (d₀ : Store) (ls₀ : List (List ℕ)) (buf : List ℕ) (end : ℕ) (d : Store) where
+  -- one step less
+  module _ (s : Option Step) (ss left : List (Option Step)) (e : left ≡ s ∷ ss)
+      (v : Left keep buf₀ d₀ ls₀ buf end d left) where
+    next_left : Left keep buf₀ d₀ ls₀ buf end d (s ∷ ss)
+    next_left = rw (← e) v
 
-    abbrev rest : List (List ℕ)
-    rest = lines_of (drop (r.end + 1) s)
+    pub step_room : (a : Answer) → a ≡ (out d s).answer → HasRoom keep buf end (answer_text a)
+    step_room a ea = rw ea (first_room keep buf _ _ _ end refl next_left.room)
 
-    next_left : Left keep buf₀ d₀ ls₀ buf end d (line ∷ rest)
-    next_left =
-        let n : r.end - at ≡ up_to 10 (drop at s) = omega (arith, q.end) in
-        let e : lines_of (drop at s) ≡ line ∷ rest = lines_next s at h ∙ rw (n, q.end) in
-        subst (λ (ls : List (List ℕ)). Left keep buf₀ d₀ ls₀ buf end d ls) e v
-
-    stepped : step_on d (request_of r.step) ≡ step_line d line
-    unfolding step_line
-    stepped = rw q.step
-
-    pub line_room : (a : Answer) → a ≡ (step_on d (request_of r.step)).answer
-        → HasRoom keep buf end (answer_text a)
-    line_room a ea = rw (ea, stepped) (first_room keep buf _ _ _ end (lines_answered d line rest) next_left.room)
-
-    pub less_left : (a : Answer) (d₁ : Store) (mid : List ℕ) (next : ℕ) → a ≡ (step_on d (request_of r.step)).answer
-        → d₁ ≡ (step_on d (request_of r.step)).store → Printed keep buf end (answer_text a) next mid
-        → Left keep buf₀ d₀ ls₀ mid next d₁ rest
+    pub less_left : (a : Answer) (d₁ : Store) (mid : List ℕ) (next : ℕ) → a ≡ (out d s).answer
+        → d₁ ≡ (out d s).store → Printed keep buf end (answer_text a) next mid
+        → Left keep buf₀ d₀ ls₀ mid next d₁ ss
     less_left a d₁ mid next ea ed p =
-        let p₁ = rw (ea, stepped) at p in
-        let e = lines_answered d line rest in
-        rw (ed, stepped)
+        let p₁ = rw ea at p in
+        rw ed
         (record {
-          room = rest_room keep buf _ _ _ end e mid next p₁ next_left.room;
-          store = ap (λ (x : Run). x.store) (sym (run_more d line rest)) ∙ next_left.store;
-          printed = λ last after z. next_left.printed last after (both_printed keep buf _ _ _ end e mid next p₁ after last z);
+          room = rest_room keep buf _ _ _ end refl mid next p₁ next_left.room;
+          store = next_left.store;
+          printed = λ last after z. next_left.printed last after (both_printed keep buf _ _ _ end refl mid next p₁ after last z);
         })
 
-  -- no line left
-  pub none_left : length s ≤ at
+  -- no step left
+  pub none_left : (left : List (Option Step)) → left ≡ [] → Left keep buf₀ d₀ ls₀ buf end d left
       → Printed keep buf₀ 0 (answer_lines d₀ ls₀) end buf × (d ≡ (run d₀ ls₀).store)
-  unfolding answers_text run_from
-  none_left h =
-      let u = subst (λ (ls : List (List ℕ)). Left keep buf₀ d₀ ls₀ buf end d ls) (lines_end s at h) v in
+  none_left left e v =
+      let u : Left keep buf₀ d₀ ls₀ buf end d [] = rw (← e) v in
       (u.printed end buf (record { place = omega arith; stored = λ k. refl }), u.store)

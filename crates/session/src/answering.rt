@@ -8,8 +8,7 @@ ghost use Rattle.session.specs.Output.{answer_lines};
 ghost use Rattle.session.specs.Printing.{HasRoom, Printed};
 
 use crate::printing::put_answer;
-use quick_words::WordTable;
-use scanning::scan_step;
+use scanning::StepReader;
 use store::Store;
 
 // Steps through all lines: the place behind their answer lines.
@@ -18,16 +17,10 @@ pub fn answer_lines(buf: &mut [u8], keep: bool, store: &mut Store, text: &[u8]) 
     ensures printed { Printed keep buf.old 0 (answer_lines store.old (lines_of text.now)) result buf.new }
     ensures stepped { store.new ≡ (run store.old (lines_of text.now)).store }
 {
-    let words = WordTable::new();
     let mut end = 0;
-    let mut at = 0;
-    // `scan_step` finds the end of a line as it reads it, so that most bytes are looked at once; an iterator over lines
-    // would find it first.
-    while at < text.len() {
-        let scanned = scan_step(&words, text, at);
-        let answer = store.execute(scanned.step);
+    for step in StepReader::new(text) {
+        let answer = store.execute(step);
         end = put_answer(buf, keep, end, answer);
-        at = scanned.end + 1;
     }
     end
 }

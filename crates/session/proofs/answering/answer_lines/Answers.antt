@@ -1,22 +1,22 @@
--- Each turn puts its line's answer behind the others.
-use Rattle.std.proofs.Common.{arith}
-use Rattle.session.proofs.Answers.{all_left, less_left, line_room, none_left}
+-- Each turn puts its step's answer behind the others.
+use Rattle.std.proofs.Common.{ap, ◌∙◌}
+use Rattle.scanning.specs.Reader.{steps_left}
+use Rattle.session.proofs.Answers.{all_left, less_left, none_left}
 use Rattle.session.proofs.answering.answer_lines.Goals as goal
 
-pub put_answer-end-requires : goal.put_answer-end-requires
-put_answer-end-requires c =
-    line_room _ _ _ _ _ _ _ _ _ c.loop-at.invariant.0 c.scan_step-scanned.result c.loop-at-test.true
-    c.scan_step-scanned.ensures _ c.execute-answer.ensures.answer
+pub loop-step-init : goal.loop-step-init
+loop-step-init c =
+    let all = ap steps_left c.into_iter-step-iterator.ensures.into_iter_gives ∙ c.new-step-items.ensures in
+    (tt, tt, all_left _ _ _ _ _ c.requires all)
 
-pub loop-at-preserved : goal.loop-at-preserved
-loop-at-preserved c = (
-  less_left _ _ _ _ _ _ _ _ _ c.loop-at.invariant.0 c.scan_step-scanned.result c.loop-at-test.true
-  c.scan_step-scanned.ensures _ _ _ _ c.execute-answer.ensures.answer c.execute-answer.ensures.store
-  c.put_answer-end.ensures,
-  omega (arith, c.scan_step-scanned.ensures.within),
-)
+pub loop-step-preserved : goal.loop-step-preserved
+loop-step-preserved c =
+    let answered = c.execute-answer.ensures in (
+      tt,
+      tt,
+      less_left _ _ _ _ _ _ _ _ _ _ c.in-Some.ensures.steps c.loop-step.invariant.2 _ _ _ _ answered.answer answered.store
+          c.put_answer-end.ensures,
+    )
 
-pub returns : goal.returns
-returns c =
-    let e = none_left _ _ _ _ _ _ _ _ _ c.loop-at.invariant.0 c.loop-at-test.false in
-    record { printed = e.0; stepped = e.1 }
+pub returns-clause-printed : goal.returns-clause-printed
+returns-clause-printed c = (none_left _ _ _ _ _ _ _ _ c.in-None.ensures.steps.0 c.loop-step.invariant.2).0
