@@ -1,7 +1,7 @@
 -- Laws of stepping through lines: one line more, its answer in front of the others. Assumes nothing.
 use mathlib.Core.Path.{◌≡◌, refl, sym, ap, ◌∙◌, subst}
 use mathlib.Core.Bool.{Bool}
-use mathlib.Core.List.{List, [], ◌∷◌, ◌++◌, map, map-append, reverse, reverse-append, append_assoc}
+use mathlib.Core.List.{List, [], ◌∷◌, ◌++◌, map-append, reverse-append, append_assoc}
 use Prim.Native.Nat.{ℕ, ◌+◌, ◌-◌, ◌≤◌, ◌<◌}
 use native.Mathlib.Omega.{arith}
 use lib.ListN.{take, drop, length}
@@ -12,7 +12,7 @@ use Rattle.answers.specs.declared.Answer.{Answer}
 use Rattle.boosting.specs.Store.{Store}
 use Rattle.boosting.specs.Rows.{request_of}
 use Rattle.boosting.specs.Step.{step_on, step_line}
-use Rattle.boosting.specs.Run.{Event, Run, advance, run_from, run, answer_at}
+use Rattle.boosting.specs.Run.{Event, Run, advance, run_from, run}
 use Rattle.scanning.specs.Scan.{Scans}
 use Rattle.scanning.specs.declared.Scanned.{Scanned}
 use Rattle.session.specs.Output.{answers_text, answer_lines}
