@@ -1,35 +1,19 @@
 -- How long the output can be. Assumes nothing.
-use mathlib.Core.Path.{◌≡◌, refl, ap, ◌∙◌}
-use mathlib.Core.Bool.{Bool, true, false, cond}
+use mathlib.Core.Path.{◌≡◌, refl, ap}
 use mathlib.Core.List.{List, [], ◌∷◌, ◌++◌}
-use Prim.Native.Nat.{ℕ, zero, suc, ◌+◌, ◌*◌, ◌/◌, ◌%◌, ◌≤◌, ◌<◌}
+use Prim.Native.Nat.{ℕ, ◌+◌, ◌*◌, ◌≤◌, ◌<◌}
 use native.Mathlib.Omega.{arith}
 use lib.Dec.{ltb}
 use lib.ListN.{length, length-append, length-drop}
 use borrow.Author.Tests.{ltb-false}
 use Rattle.refusals.specs.Refusal.{refusal_number}
 use Rattle.refusals.specs.declared.Refusal.{Refusal}
-use Rattle.refusals.specs.declared.Refusal.TheVariants.{
-  Malformed as MalformedLine,
-  TransactionOutOfRange,
-  AlreadyBegun,
-  NotBegun,
-  Aborting,
-  NotAborting,
-  CueOutOfRange,
-  Blocked,
-  LocksFull,
-  UndoLogFull,
-  ScriptFull,
-  QueueFull,
-  TextTooLong,
-  BufferTooShort,
-}
+use Rattle.refusals.specs.declared.Refusal.TheVariants.{Malformed as MalformedLine, Blocked, TextTooLong}
 use Rattle.lines.specs.Ascii.{bytes}
 use Rattle.lines.specs.Lines.{up_to, lines_of}
 use Rattle.lines.proofs.Laws.{lines_append}
 use Rattle.digits.specs.Digits.{digits_at, digits_of}
-use Rattle.digits.proofs.Laws.{digits_at_most}
+use Rattle.digits.proofs.Laws.{digits_at_most, digits_bounded}
 use Rattle.records.specs.Record.{field_text}
 use Rattle.records.proofs.Laws.{field_length, record_length}
 use Rattle.cues.specs.Cue.{cue_of}
@@ -42,16 +26,16 @@ use Rattle.scripts.specs.Script.{script_of}
 use Rattle.steps.specs.declared.reading.Step.{Step}
 use Rattle.steps.specs.declared.reading.Step.TheVariants.{WithNumber, WithCue}
 use Rattle.step_words.specs.declared.NumberWord.{NumberWord}
-use Rattle.step_words.specs.declared.NumberWord.TheVariants.{Begin, Min, Take, Commit, Undo, Back}
+use Rattle.step_words.specs.declared.NumberWord.TheVariants.{Begin}
 use Rattle.step_words.specs.declared.CueWord.{CueWord}
-use Rattle.step_words.specs.declared.CueWord.TheVariants.{Add, Remove, Has, Push}
+use Rattle.step_words.specs.declared.CueWord.TheVariants.{Add}
 use Rattle.step_words.specs.Word.{number_word, cue_word}
 use Rattle.answers.specs.declared.Answer.TheVariants.{Left}
 use Rattle.steps.specs.Step.{step_of}
 use Rattle.steps.specs.StepText.{step_text}
 use Rattle.answers.specs.Answer.{refusal_text, answer_text}
 use Rattle.steps.proofs.Theorems.{step_read_is_canonical}
-use Rattle.boosting.specs.Object.{Reply, is_yes, is_no, is_ok, is_empty, is_cue, reply, answer_of}
+use Rattle.boosting.specs.Object.{Reply, is_cue, reply, answer_of}
 use Rattle.boosting.specs.Undo.{Entry}
 use Rattle.boosting.specs.Store.{Store, opened, transaction}
 use Rattle.boosting.specs.Rows.{
@@ -72,7 +56,6 @@ use Rattle.boosting.proofs.Theorems.{opened_is_sound, run_keeps_sound, recovery_
 use Rattle.boosting.specs.Run.{run}
 use Rattle.inputs.specs.Division.{steps_place, start_text, step_list}
 use Rattle.inputs.proofs.Texts.{by_lines, lines_one}
-use Rattle.closing_lists.specs.Closing.{closing_text}
 use Rattle.closing_lists.proofs.Fitting.{closing_fits}
 use Rattle.session.specs.Output.{
   answer_lines,
@@ -86,27 +69,10 @@ use Rattle.session.specs.Theorems.{room, OutputFits}
 use Rattle.session.proofs.Answers.{lines_answered, nothing_answered}
 
 -- ---- one answer
-digits_bounded : (k n : ℕ) → length (digits_at k n) ≤ suc k
-unfolding digits_at
-digits_bounded zero n = omega arith
-digits_bounded (suc k) n = by_test (ltb n 10) (digits_bounded k (n / 10))
-  where
-    by_test : (t : Bool) → length (digits_at k (n / 10)) ≤ suc k
-        → length (cond t ((48 + n) ∷ []) (digits_at k (n / 10) ++ ((48 + n % 10) ∷ []))) ≤ suc (suc k)
-    by_test true h = omega arith
-    by_test false h = omega (arith, length-append (digits_at k (n / 10)) ((48 + n % 10) ∷ []))
-
 refusal_at_most : (r : Refusal) → length (refusal_text r) ≤ 40
 unfolding refusal_text digits_at
 refusal_at_most (Blocked e) =
-    omega (
-      arith,
-      record_length (bytes "refused") 8 e,
-      field_length 8 44,
-      field_length e 10,
-      digits_bounded 19 8,
-      digits_bounded 19 e,
-    )
+    omega (arith, record_length (bytes "refused") 8 e, field_length e 10, digits_bounded 19 e)
 refusal_at_most _ = omega arith
 
 left_at_most : (n : ℕ) → length (answer_text (Left n)) ≤ 40
@@ -148,9 +114,11 @@ stepped_at_most d None = refusal_at_most MalformedLine
 stepped_at_most d (Some q) = decided_at_most (refusal_of d (Some q)) d q.transaction q.action
 
 number_word_long : (w : NumberWord) → 3 ≤ length (number_word w)
+number_word_long Begin = omega arith
 number_word_long _ = omega arith
 
 cue_word_long : (w : CueWord) → 3 ≤ length (cue_word w)
+cue_word_long Add = omega arith
 cue_word_long _ = omega arith
 
 -- a line that is a step has four bytes and more
@@ -184,35 +152,24 @@ answers_none d = rw (nothing_answered d) (omega arith)
 
 answers_one : (s : List ℕ) → 0 < length s → up_to 10 s ≡ length s → AnswersFit s
 answers_one s h u d =
-    let e : answer_lines d (lines_of s) ≡ answer_text (step_line d s).answer ++ answer_lines (step_line d s).store [] =
-    ap (answer_lines d) (lines_one s h u) ∙ lines_answered d s [] in
-    let n = ap length e
-    ∙ length-append (answer_text (step_line d s).answer) (answer_lines (step_line d s).store []) in
-    let z = ap length (nothing_answered (step_line d s).store) in
-    omega (arith, n, z, answer_at_most d s (length s) (omega arith) (omega arith))
+    rw (lines_one s h u, lines_answered d s [], nothing_answered)
+    (simp length-append (omega (arith, answer_at_most d s (length s) (omega arith) (omega arith))))
 
 answers_more : (l r : List ℕ) → up_to 10 l ≡ length l → AnswersFit r → AnswersFit (l ++ 10 ∷ r)
 answers_more l r u hyp d =
-    let d₁ = (step_line d l).store in
-    let e = ap length (ap (answer_lines d) (lines_append l r u) ∙ lines_answered d l (lines_of r)) in
-    let n = length-append (answer_text (step_line d l).answer) (answer_lines d₁ (lines_of r)) in
-    let m = length-append l (10 ∷ r) in
     let a = answer_at_most d l (length l + 1) (omega arith) (omega arith) in
-    omega (arith, e, n, m, a, hyp d₁)
+    rw (lines_append l r u, lines_answered d l (lines_of r))
+    (simp length-append (omega (arith, a, hyp (step_line d l).store)))
 
-pub answers_fit : (s : List ℕ) → AnswersFit s
+answers_fit : (s : List ℕ) → AnswersFit s
 answers_fit = by_lines AnswersFit answers_none answers_one answers_more
 
 -- ---- the whole output
-pub run_length : (d : Store) (ls : List (List ℕ))
-    → length (run_text d ls) ≡ length (answer_lines d ls) + length (closing_text (recovered d ls).state)
+run_fits : (d : Store) (s : List ℕ) → Sound d → length s ≤ 65536 → length (run_text d (lines_of s)) ≤ room
 unfolding run_text
-run_length d ls = length-append (answer_lines d ls) (closing_text (recovered d ls).state)
-
-pub run_fits : (d : Store) (s : List ℕ) → Sound d → length s ≤ 65536 → length (run_text d (lines_of s)) ≤ room
 run_fits d s v h =
     let w = recovery_keeps_sound (run d (lines_of s)).store rising (run_keeps_sound d (lines_of s) v) in
-    omega (arith, run_length d (lines_of s), answers_fit s d, closing_fits (recovered d (lines_of s)) w)
+    simp length-append (omega (arith, answers_fit s d, closing_fits (recovered d (lines_of s)) w))
 
 pub refused_length : (r : Refusal) (line : ℕ)
     → length (start_refused r line) ≡ 8 + length (digits_of (refusal_number r)) + length (digits_of line)

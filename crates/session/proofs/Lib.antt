@@ -3,5 +3,4 @@ pub mod Examples
 pub mod Fitting
 pub mod Outcomes
 pub mod Parts
-pub mod Texts
 pub mod Theorems

@@ -2,23 +2,14 @@
 use mathlib.Core.Path.{◌≡◌, refl, sym, ap, ◌∙◌}
 use mathlib.Core.Bool.{Bool, true}
 use mathlib.Core.List.{List, ◌++◌}
-use Prim.Native.Nat.{ℕ, ◌+◌, ◌-◌, ◌≤◌, ◌<◌}
+use Prim.Native.Nat.{ℕ, ◌-◌, ◌≤◌, ◌<◌}
 use native.Mathlib.Omega.{arith}
 use lib.ListN.{length, take, drop, length-drop}
 use lib.Seq.{take_all}
 use borrow.Author.Tests.{lt-ltb, le-ltb}
-use Rattle.refusals.specs.Refusal.{refusal_number}
-use Rattle.refusals.specs.declared.Refusal.{Refusal}
 use Rattle.refusals.specs.declared.Refusal.TheVariants.{TextTooLong}
-use Rattle.lines.specs.Ascii.{bytes}
 use Rattle.lines.specs.Lines.{lines_of}
-use Rattle.digits.specs.Digits.{digits_of}
-use Rattle.records.specs.Record.{record_text}
 use Rattle.std.specs.Prelude.{Result, Ok, Err}
-use Rattle.buffers.specs.Put.{Put}
-use Rattle.buffers.specs.Written.{written_at}
-use Rattle.buffers.proofs.Laws.{written, written_back}
-use Rattle.buffers.proofs.Puts.{rest_fits, rest_ends, rest_stored}
 use Rattle.std.specs.Result.{IsOk}
 use Rattle.refusals.specs.declared.RefusedText.{RefusedText}
 use Rattle.scripts.specs.Script.{script_of, script_or_empty}
@@ -46,10 +37,8 @@ output_refused s start why h es e = rw (le-ltb _ _ h, ← es) (by_script (script
   where
     by_script : (r : Result (List ℕ) RefusedText) → Err why ≡ opening r
         → start_refused why.refusal why.line ≡ output_with r (lines_of (step_list s))
-    by_script (Err w) q =
-        let p : why ≡ w = cc in
-        ap (λ (x : RefusedText). start_refused x.refusal x.line) p
-    by_script (Ok t) q = let z : ◌≡◌ {A = ℕ} 0 1 = cc in absurd (omega arith)
+    by_script (Err w) q = cc
+    by_script (Ok t) q = cc
 
 pub output_accepted : (s : List ℕ) → length s ≤ 65536 → IsOk (script_of (start_text s))
     → output_of s ≡ run_text (opened (script_or_empty (script_of (start_text s)))) (lines_of (step_list s))
@@ -59,7 +48,7 @@ output_accepted s h e = rw (le-ltb _ _ h) (by_script (script_of (start_text s)) 
     by_script : (r : Result (List ℕ) RefusedText) → IsOk r
         → output_with r (lines_of (step_list s)) ≡ run_text (opened (script_or_empty r)) (lines_of (step_list s))
     by_script (Ok t) q = refl
-    by_script (Err w) q = let z : ◌≡◌ {A = ℕ} 0 1 = cc in absurd (omega arith)
+    by_script (Err w) q = cc
 
 -- the parts of the input and the store opened, as the code has them
 pub output_run : (s start steps : List ℕ) (d : Store) → length s ≤ 65536 → start ≡ start_text s
@@ -71,7 +60,7 @@ output_run s start steps d h es et e ed =
   where
     is_accepted : (r : Result (List ℕ) RefusedText) → Ok tt ≡ opening r → IsOk r
     is_accepted (Ok t) q = refl
-    is_accepted (Err w) q = let z : ◌≡◌ {A = ℕ} 0 1 = cc in absurd (omega arith)
+    is_accepted (Err w) q = cc
 
 -- ---- the start of a session
 -- the step list, as the code cuts it out
