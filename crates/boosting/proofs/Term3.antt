@@ -8,7 +8,7 @@ use mathlib.Core.List.{List, [], ◌∷◌, ◌++◌, map, map-append, reverse, 
 use mathlib.Core.Logic.{inl}
 use Rattle.std.specs.Prelude.{Option, None, Some}
 use native.Mathlib.Omega.{arith}
-use lib.Dec.{eqb}
+use Rattle.std.proofs.lemmas.Bool.{agree_below_at}
 use Rattle.refusals.specs.declared.Refusal.{Refusal}
 use Rattle.steps.specs.Step.{step_of}
 use Rattle.answers.specs.declared.Answer.{Answer}
@@ -24,6 +24,7 @@ use Rattle.boosting.specs.Store.{
   Store,
   started,
   opened,
+  valid,
   transaction,
 }
 use Rattle.boosting.specs.Rows.{
@@ -60,8 +61,8 @@ use Rattle.boosting.specs.Replay.{
 use Rattle.boosting.specs.Theorems.{Covers, Term3, Term3Rising}
 use Rattle.boosting.proofs.Acceptance.{eight_closed}
 use Rattle.boosting.proofs.ObjectLaws.{Good, started-Good}
-use Rattle.boosting.proofs.Trace.{Item, play, Same, In, play-nil, play-cons}
-use Rattle.boosting.proofs.StoreLaws.{valid_range, open_unclosed, aborting_unclosed}
+use Rattle.boosting.proofs.Trace.{Item, play, Same, In}
+use Rattle.boosting.proofs.StoreLaws.{valid_range}
 use Rattle.boosting.proofs.Accepted.{malformed_refused, step_refused, step_accepted}
 use Rattle.boosting.proofs.Refusals.{perform_accepted}
 use Rattle.boosting.proofs.Invariant.{Invariant}
@@ -85,38 +86,11 @@ record Account (past : List Event) (pending : ℕ → List Item) (settled : List
 
 map-since : {A B : Type 0} (f : A → B) (e : ℕ) (q : Option Request) (x : Call → A) (xs : List A)
     → map f (since e q x xs) ≡ since e q (λ c. f (x c)) (map f xs)
-map-since {A} {B} f e None x xs = refl
-map-since {A} {B} f e (Some q) x xs = by q.action
-  where
-    begins : (b : Bool) → map f (cond b [] xs) ≡ cond b [] (map f xs)
-    begins true = refl
-    begins false = refl
-
-    calls : (c : Call) (b : Bool) → map f (cond b (x c ∷ xs) xs) ≡ cond b (f (x c) ∷ map f xs) (map f xs)
-    calls c true = refl
-    calls c false = refl
-
-    by : (a : Action)
-        → map f (since_action e q.transaction a x xs) ≡ since_action e q.transaction a (λ c. f (x c)) (map f xs)
-    by begin = begins (eqb q.transaction e)
-    by commit = refl
-    by abort = refl
-    by roll_back = refl
-    by (call None) = refl
-    by (call (Some c)) = calls c (eqb q.transaction e)
+map-since f e q x xs = grind arith
 
 map-committed : {A B : Type 0} (f : A → B) (q : Option Request) (p : ℕ → List A) (xs : List A)
     → map f (committed q p xs) ≡ committed q (λ e. map f (p e)) (map f xs)
-map-committed f None p xs = refl
-map-committed f (Some q) p xs = by q.action
-  where
-    by : (a : Action) → map f (committed_action q.transaction a p xs)
-        ≡ committed_action q.transaction a (λ e. map f (p e)) (map f xs)
-    by begin = refl
-    by commit = map-append f (p q.transaction) xs
-    by abort = refl
-    by roll_back = refl
-    by (call c) = refl
+map-committed f q p xs = grind (arith, map-append)
 
 module _ (h : Event) (past : List Event) (pending : ℕ → List Item) (settled : List Item)
     (a : Account past pending settled) where
@@ -136,19 +110,10 @@ module _ (h : Event) (past : List Event) (pending : ℕ → List Item) (settled 
       → Account (h ∷ past) (λ e. since e q (item_of d f) (pending e)) (committed q pending settled)
   unfolding calls_of answers_of feed heard_back
   Account-accepted q w d f t agree = record {
-    calls = λ e.
-        rw (t, w) (ap (since e q (λ c. c)) (a.calls e) ∙ sym (map-since call_in e q (item_of d f) (pending e)));
-    answers = λ e.
-        rw (t, w)
-        (agree e (answers_of e past)
-        ∙ ap (since e q (λ c. answer_in (item_of d f c))) (a.answers e)
-        ∙ sym (map-since answer_in e q (item_of d f) (pending e)));
-    fed =
-        rw (t, w)
-        ((λ i. committed q (λ e. a.calls e i) (a.fed i)) ∙ sym (map-committed call_in q pending settled));
-    heard =
-        rw (t, w)
-        ((λ i. committed q (λ e. a.answers e i) (a.heard i)) ∙ sym (map-committed answer_in q pending settled));
+    calls = λ e. rw (t, w, a.calls e, map-since);
+    answers = λ e. rw (t, w, agree e (answers_of e past)) (grind (arith, a.answers e));
+    fed = rw (t, w, a.fed, map-committed) (λ i. committed q (λ e. a.calls e i) (map call_in settled));
+    heard = rw (t, w) (grind (arith, a, map-append));
   }
 
 -- ---- a run keeps the invariant and the account
@@ -167,12 +132,8 @@ stepped r line o = record { store = o.store; past = record { line = line; answer
 answers_agree : (d : Store) (f : ℕ) (a : Action) (e : ℕ) (xs : List Answer)
     → since e (request f a) (λ c. (perform d f a).answer) xs ≡ since e (request f a) (λ c. answer_in (item_of d f c)) xs
 unfolding perform accept
-answers_agree d f begin e xs = refl
-answers_agree d f commit e xs = refl
-answers_agree d f abort e xs = refl
-answers_agree d f roll_back e xs = refl
-answers_agree d f (call None) e xs = refl
 answers_agree d f (call (Some c)) e xs = refl
+answers_agree d f _ e xs = refl
 
 module _ (start : State) (g : Good start) where
   outcome_keeps : (r : Run) → Kept start r → (line : List ℕ) (q : Option Request) → request_of (step_of line) ≡ q
@@ -230,7 +191,7 @@ opened_keeps script = record {
     unclosed = λ i p. absurd p;
     locked = λ i p. absurd p;
     logs = λ e s. absurd (s (opened-closed script e));
-    own = λ e s. absurd (open_unclosed (transaction (opened script) e).standing s (opened-closed script e));
+    own = λ e s. cc (opened-closed script e);
   };
   account = record { calls = λ e. refl; answers = λ e. refl; fed = refl; heard = refl };
 }
@@ -246,19 +207,16 @@ module _ (start : State) (g : Good start) (d : Store) (pending : ℕ → List It
   recovered_closed : (e : ℕ) → (transaction (recover d order) e).standing ≡ closed
   recovered_closed e = go (transaction d e).standing refl
     where
-      unclosed : ((transaction d e).standing ≡ closed → ⊥) → (transaction (recover d order) e).standing ≡ closed
-      unclosed n = recovery_closes start g pending settled order d v e (covers e n)
-
       go : (s : Standing) → (transaction d e).standing ≡ s → (transaction (recover d order) e).standing ≡ closed
       go closed q = (after_recovery start g pending settled order d v).stay e q
-      go «open» q = unclosed (open_unclosed (transaction d e).standing q)
-      go aborting q = unclosed (aborting_unclosed (transaction d e).standing q)
+      go _ q = recovery_closes start g pending settled order d v e (covers e (λ s. cc))
 
   recovered-state : (recover d order).state ≡ play start settled
+  unfolding play
   recovered-state =
       let w = (after_recovery start g pending settled order d v).kept in
       let t : w.trace ≡ [] = no_items w.trace (λ i p. w.unclosed i p (recovered_closed i.of)) in
-      cc (t, w.state, play-nil (play start settled))
+      cc (t, w.state)
 
 -- ---- from newest first to the replay's order
 
@@ -274,15 +232,9 @@ replies_end s [] c = refl
 replies_end s (b ∷ cs) c = ap (λ (l : List Answer). answer_of (reply b s) ∷ l) (replies_end (effect b s) cs c)
 
 play-replay : (s : State) (t : List Item) → play s t ≡ replay s (reverse (map call_in t))
-unfolding replay
-play-replay s [] = play-nil s
-play-replay s (i ∷ t) =
-    cc (
-      play-cons s i t,
-      play-replay s t,
-      replay_end s (reverse (map call_in t)) i.call,
-      reverse-cons i.call (map call_in t),
-    )
+unfolding replay play
+play-replay s [] = refl
+play-replay s (i ∷ t) = cc (play-replay s t, replay_end s (reverse (map call_in t)) i.call, reverse-cons i.call (map call_in t))
 
 Same-replies : (s : State) (t : List Item) → Same s t → reverse (map answer_in t) ≡ replies s (reverse (map call_in t))
 unfolding replies
@@ -290,7 +242,6 @@ Same-replies s [] q = refl
 Same-replies s (i ∷ t) q =
     cc (
       Same-replies s t q.1,
-      q.0,
       play-replay s t,
       replies_end s (reverse (map call_in t)) i.call,
       reverse-cons i.call (map call_in t),
@@ -326,21 +277,12 @@ term_3 text accepted lines order covers =
       all_closed = recovered_closed start g d k.pending k.settled k.invariant order covers;
     }
 
-rising_has : (e : ℕ) → (1 ≤ e) × (e ≤ 8) → member_of e rising ≡ true
+rising_has : (e : ℕ) → valid e ≡ true → member_of e rising ≡ true
 unfolding rising member_of
-rising_has zero h = absurd (omega (arith, h.0))
-rising_has (suc zero) h = refl
-rising_has (suc (suc zero)) h = refl
-rising_has (suc (suc (suc zero))) h = refl
-rising_has (suc (suc (suc (suc zero)))) h = refl
-rising_has (suc (suc (suc (suc (suc zero))))) h = refl
-rising_has (suc (suc (suc (suc (suc (suc zero)))))) h = refl
-rising_has (suc (suc (suc (suc (suc (suc (suc zero))))))) h = refl
-rising_has (suc (suc (suc (suc (suc (suc (suc (suc zero)))))))) h = refl
-rising_has (suc (suc (suc (suc (suc (suc (suc (suc (suc e))))))))) h = absurd (omega (arith, h.1))
+rising_has e h = agree_below_at (λ e. member_of e rising) valid 9 e refl (omega (arith, (valid_range e h).1)) ∙ h
 
 pub term_3_rising : Term3Rising
 term_3_rising text accepted lines =
     let d = (run (opened (script_or_empty (script_of text))) lines).store in
     let v = (kept_at text lines).invariant in
-    term_3 text accepted lines rising (λ e n. rising_has e (valid_range e (unclosed_valid d e v.eight n)))
+    term_3 text accepted lines rising (λ e n. rising_has e (unclosed_valid d e v.eight n))
