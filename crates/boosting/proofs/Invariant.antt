@@ -26,7 +26,6 @@ use Rattle.boosting.specs.Store.{
   transaction,
   blocker,
 }
-use Rattle.boosting.proofs.Sorted.{EqNe, eq, ne, eq_ne}
 use Rattle.boosting.proofs.ObjectLaws.{
   Good,
   Free,
@@ -36,7 +35,7 @@ use Rattle.boosting.proofs.ObjectLaws.{
   holds_old,
   locks_sound,
 }
-use Rattle.boosting.proofs.StoreLaws.{Changed, open_unclosed, blocker_own, blocker_clear, blocker_here}
+use Rattle.boosting.proofs.StoreLaws.{Changed, no_conflict}
 use Rattle.boosting.proofs.Trace.{
   Item,
   play,
@@ -56,24 +55,6 @@ use Rattle.boosting.proofs.Trace.{
   mine-others,
   Cut,
 }
-
--- ---- nobody blocks: no other transaction's locks conflict
-
-abbrev locks_at : List Transaction → ℕ → Locks
-locks_at ts j = (get_or ts j closed_transaction).locks
-
-no_blocker : (e : ℕ) (k : Lock) (i : ℕ) (ts : List Transaction) → blocker e k i ts ≡ None → (j : ℕ)
-    → (i + j ≡ e → ⊥) → conflicts k (locks_at ts j) ≡ false
-unfolding closed_transaction blocker
-no_blocker e k i [] h j n = no_locks_no_conflict k
-no_blocker e k i (t ∷ ts) h zero n = grind arith
-no_blocker e k i (t ∷ ts) h (suc j) n = grind (arith, no_blocker e k (suc i) ts)
-
-no_conflict : (d : Store) (e : ℕ) (k : Lock) → blocker e k 1 d.transactions ≡ None → (f : ℕ) → (f ≡ e → ⊥)
-    → conflicts k (transaction d f).locks ≡ false
-unfolding transaction closed_transaction
-no_conflict d e k h zero n = no_locks_no_conflict k
-no_conflict d e k h (suc j) n = no_blocker e k 1 d.transactions h j (λ z. n (omega arith))
 
 -- ---- the invariant
 

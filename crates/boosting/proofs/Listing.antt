@@ -22,7 +22,6 @@ use Rattle.boosting.specs.Store.{Transaction}
 use Rattle.boosting.specs.Listing.{lock_line, mode_line, lock_lines, mode_lines, modes_of, listing_of, listing_from}
 use Rattle.boosting.specs.Sound.{Once, SoundTransaction, AllSound}
 use Rattle.boosting.specs.Theorems.{Among, EachOnce, ListingOnce}
-use Rattle.boosting.proofs.Sorted.{never}
 use Rattle.boosting.proofs.Slots.{or_right}
 
 -- ---- lists of lines
@@ -104,7 +103,7 @@ module _ (e : ℕ) (h : e < 10) where
   unfolding lock_lines
   locks_once [] o a = tt
   locks_once (k ∷ ks) o a =
-      (λ m. never (member_of k ks) (Among-locks k ks a.0 a.1 m) o.0, locks_once ks o.1 a.1)
+      (λ m. cc (Among-locks k ks a.0 a.1 m, o.0), locks_once ks o.1 a.1)
 
   All-locks : (P : List ℕ → Type 0) → ((k : ℕ) → P (lock_line e k)) → (ks : List ℕ) → All P (lock_lines e ks)
   unfolding lock_lines

@@ -6,7 +6,9 @@ use mathlib.Core.Bool.{Bool, true, false}
 use mathlib.Core.List.{List, [], ◌∷◌}
 use Rattle.std.specs.Prelude.{Option, None, Some}
 use native.Mathlib.Omega.{arith}
-use lib.ListN.{length, get_or, get_or-eq_default}
+use lib.ListN.{length}
+use Rattle.std.proofs.lemmas.Bool.{true_from_ne_false}
+use Rattle.std.proofs.lemmas.List.{get_or_past}
 use Rattle.refusals.specs.declared.Refusal.{Refusal}
 use Rattle.tables.specs.Table.{member_of}
 use Rattle.boosting.specs.Object.{State}
@@ -24,10 +26,9 @@ use Rattle.boosting.specs.Store.{
 use Rattle.boosting.specs.Rows.{Action, abort, roll_back, request, refusal_of}
 use Rattle.boosting.specs.Step.{aborted, perform, step_on}
 use Rattle.boosting.specs.Recovery.{roll_backs, recover_one, recover}
-use Rattle.boosting.proofs.Sorted.{EqNe, eq, ne, eq_ne, LeGt, le, gt, le_gt, never, member_nil, member_ne}
 use Rattle.boosting.proofs.ObjectLaws.{Good}
 use Rattle.boosting.proofs.Trace.{Item}
-use Rattle.boosting.proofs.StoreLaws.{range_valid, changed, open_unclosed, aborting_unclosed}
+use Rattle.boosting.proofs.StoreLaws.{changed}
 use Rattle.boosting.proofs.Invariant.{Invariant}
 use Rattle.boosting.proofs.Accepted.{Accepts, asks, accepted_valid, step_refused, step_accepted, Accepts-abort}
 use Rattle.boosting.proofs.Unwinding.{rolled_back, Closed, step_stays, further, further_at_most, closes}
@@ -35,25 +36,14 @@ use Rattle.boosting.proofs.Stepping.{perform_keeps}
 
 -- ---- numbers out of range
 
-pub invalid_closed : (d : Store) (e : ℕ) → length d.transactions ≡ 8 → valid e ≡ false
-    → (transaction d e).standing ≡ closed
+invalid_closed : (d : Store) (e : ℕ) → length d.transactions ≡ 8 → valid e ≡ false → (transaction d e).standing ≡ closed
 unfolding transaction closed_transaction
 invalid_closed d zero l h = refl
-invalid_closed d (suc i) l h = go (le_gt (suc i) 8)
-  where
-    go : LeGt (suc i) 8 → (get_or d.transactions i closed_transaction).standing ≡ closed
-    go (le k) = absurd (never (valid (suc i)) (range_valid (suc i) (omega arith) k) h)
-    go (gt k) =
-        ap (λ (t : Transaction). t.standing)
-        (get_or-eq_default d.transactions closed_transaction {n = i} (omega arith))
+invalid_closed d (suc i) l h = grind (arith, get_or_past)
 
 pub unclosed_valid : (d : Store) (e : ℕ) → length d.transactions ≡ 8 → ((transaction d e).standing ≡ closed → ⊥)
     → valid e ≡ true
-unclosed_valid d e l n = go (valid e) refl
-  where
-    go : (b : Bool) → valid e ≡ b → valid e ≡ true
-    go true h = h
-    go false h = absurd (n (invalid_closed d e l h))
+unclosed_valid d e l n = true_from_ne_false (valid e) (λ h. n (invalid_closed d e l h))
 
 -- ---- an abort and a rollback step
 
@@ -90,11 +80,11 @@ module _ (start : State) (g : Good start) (pending : ℕ → List Item) (settled
 
     after_abort : (d : Store) → Inv d → Next d (aborted_at d e)
     after_abort d v =
-        after_step abort d v (open_unclosed (asks abort) refl) (perform_keeps start g d pending settled e v abort)
+        after_step abort d v (λ s. cc) (perform_keeps start g d pending settled e v abort)
 
     after_roll_back : (d : Store) → Inv d → Next d (rolled_back d e)
     after_roll_back d v =
-        after_step roll_back d v (aborting_unclosed (asks roll_back) refl)
+        after_step roll_back d v (λ s. cc)
         (perform_keeps start g d pending settled e v roll_back)
 
     -- an abort leaves e not open, and its log as it is
@@ -106,18 +96,12 @@ module _ (start : State) (g : Good start) (pending : ℕ → List Item) (settled
         go : (o : Option Refusal) → refusal_of d (request e abort) ≡ o
             → Unopen (aborted_at d e) × ((transaction (aborted_at d e) e).log ≡ (transaction d e).log)
         go (Some r) h =
-            rw (step_refused d (request e abort) r h, aborted_at) (
-              (λ s.
-                  let ok = unclosed_valid d e v.eight (open_unclosed (transaction d e).standing s) in
-                  let z : ◌≡◌ {A = ℕ} 0 1 = cc (Accepts-abort d e ok s) in
-                  omega arith),
-              refl,
-            )
+            rw (step_refused d (request e abort) r h, aborted_at)
+            ((λ s. cc (Accepts-abort d e (unclosed_valid d e v.eight (λ k. cc)) s)), refl)
         go None h =
             let x = aborted (transaction d e) in
             let new = (changed d d.state e x v.eight (accepted_valid d e abort h)).new in
-            rw (step_accepted d e abort h, aborted_at, new)
-            ((λ s. let z : ◌≡◌ {A = ℕ} 0 1 = cc in omega arith), refl)
+            rw (step_accepted d e abort h, aborted_at, new) ((λ s. cc), refl)
 
     -- ---- recovery of one transaction
 
@@ -151,7 +135,7 @@ module _ (start : State) (g : Good start) (pending : ℕ → List Item) (settled
         go «open» q = absurd ((abort_not_open d v).0 q)
         go aborting q =
             let log = (transaction (aborted_at d e) e).log in
-            let ok = unclosed_valid (aborted_at d e) e w.eight (aborting_unclosed _ q) in
+            let ok = unclosed_valid (aborted_at d e) e w.eight (λ s. cc) in
             let m : further log ≤ n = rw (← (abort_not_open d v).1) (further_at_most log) in
             closes e ok n (further log) (aborted_at d e) m (record { eight = w.eight; standing = q; steps = refl })
 
@@ -166,12 +150,9 @@ module _ (start : State) (g : Good start) (pending : ℕ → List Item) (settled
 
   pub recovery_closes : (order : List ℕ) (d : Store) → Inv d → (f : ℕ) → member_of f order ≡ true
       → Closed (recover d order) f
-  unfolding recover
-  recovery_closes [] d v f m = cc (member_nil f)
+  unfolding recover member_of
+  recovery_closes [] d v f m = cc
   recovery_closes (e ∷ es) d v f m =
-      go (eq_ne f e) (λ m'. recovery_closes es (recover_one d e) (after_one e d v).kept f m')
-    where
-      go : EqNe f e → (member_of f es ≡ true → Closed (recover (recover_one d e) es) f)
-          → Closed (recover (recover_one d e) es) f
-      go (eq q) ih = (after_recovery es (recover_one d e) (after_one e d v).kept).stay f (cc (one_closes e d v))
-      go (ne q) ih = ih (cc (member_ne f e es q))
+      let k = (after_one e d v).kept in
+      let stay = (after_recovery es (recover_one d e) k).stay f in
+      grind (arith, one_closes e d v, stay, recovery_closes es (recover_one d e) k f)

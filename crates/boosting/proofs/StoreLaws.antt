@@ -1,6 +1,6 @@
 -- Laws of the store: which numbers are transactions, what putting one transaction anew changes, and the search for the
 -- transaction in the way, branch by branch. Assumes nothing.
-use Prim.Native.Nat.{ℕ, zero, suc, ◌≤◌, ◌<◌}
+use Prim.Native.Nat.{ℕ, zero, suc, ◌+◌, ◌≤◌, ◌<◌}
 use mathlib.Core.Path.{◌≡◌, refl, ap}
 use mathlib.Core.Bool.{Bool, true, false, ◌&&◌}
 use mathlib.Core.List.{List, [], ◌∷◌}
@@ -11,7 +11,7 @@ use lib.ListN.{length, get_or, length-set}
 use lib.Seq.{get_or-set_same, get_or-set_other}
 use borrow.Author.Tests.{leb-true, le-leb}
 use Rattle.boosting.specs.Object.{State}
-use Rattle.boosting.specs.Locks.{Lock, conflicts}
+use Rattle.boosting.specs.Locks.{Lock, Locks, conflicts}
 use Rattle.boosting.specs.Store.{
   Standing,
   closed,
@@ -25,6 +25,7 @@ use Rattle.boosting.specs.Store.{
   put,
   blocker,
 }
+use Rattle.boosting.proofs.ObjectLaws.{no_locks_no_conflict}
 
 -- ---- numbers
 
@@ -107,20 +108,19 @@ aborting_unclosed s p q = let z : ◌≡◌ {A = ℕ} 0 1 = cc in omega arith
 
 -- ---- the search for the transaction in the way
 
-pub blocker-none : (e : ℕ) (k : Lock) (i : ℕ) → blocker e k i [] ≡ None
-unfolding blocker
-blocker-none e k i = refl
+abbrev locks_at : List Transaction → ℕ → Locks
+locks_at ts j = (get_or ts j closed_transaction).locks
 
-module _ (e : ℕ) (k : Lock) (i : ℕ) (t : Transaction) (ts : List Transaction) where
-  pub blocker_own : eqb i e ≡ true → blocker e k i (t ∷ ts) ≡ blocker e k (suc i) ts
-  unfolding blocker
-  blocker_own q = rw q
+no_blocker : (e : ℕ) (k : Lock) (i : ℕ) (ts : List Transaction) → blocker e k i ts ≡ None → (j : ℕ)
+    → (i + j ≡ e → ⊥) → conflicts k (locks_at ts j) ≡ false
+unfolding closed_transaction blocker
+no_blocker e k i [] h j n = no_locks_no_conflict k
+no_blocker e k i (t ∷ ts) h zero n = grind arith
+no_blocker e k i (t ∷ ts) h (suc j) n = grind (arith, no_blocker e k (suc i) ts)
 
-  pub blocker_clear : eqb i e ≡ false → conflicts k t.locks ≡ false
-      → blocker e k i (t ∷ ts) ≡ blocker e k (suc i) ts
-  unfolding blocker
-  blocker_clear q c = rw (q, c)
-
-  pub blocker_here : eqb i e ≡ false → conflicts k t.locks ≡ true → blocker e k i (t ∷ ts) ≡ Some i
-  unfolding blocker
-  blocker_here q c = rw (q, c)
+-- where nobody is in the way no other transaction's locks conflict
+pub no_conflict : (d : Store) (e : ℕ) (k : Lock) → blocker e k 1 d.transactions ≡ None → (f : ℕ) → (f ≡ e → ⊥)
+    → conflicts k (transaction d f).locks ≡ false
+unfolding transaction closed_transaction
+no_conflict d e k h zero n = no_locks_no_conflict k
+no_conflict d e k h (suc j) n = no_blocker e k 1 d.transactions h j (λ z. n (omega arith))
