@@ -9,6 +9,7 @@ use native.Mathlib.Omega.{arith}
 use lib.ListN.{length, replicate}
 use Rattle.refusals.specs.declared.Refusal.{Refusal}
 use Rattle.cues.specs.Cue.{in_range, key_of, CueKey}
+use Rattle.cues.specs.declared.Cue.{Cue}
 use Rattle.cues.proofs.Theorems.{key_is_cue_key}
 use Rattle.steps.specs.declared.reading.Step.{Step}
 use Rattle.steps.specs.declared.reading.Step.TheVariants.{WithNumber, WithCue}
@@ -84,30 +85,18 @@ opened_is_sound text =
 
 -- ---- one step
 
-number_key : (w : NumberWord) (e : ℕ) → RequestKey (request e (number_action w))
-number_key Begin e = tt
-number_key Min e = tt
-number_key Take e = tt
-number_key Commit e = tt
-number_key Undo e = tt
-number_key Back e = tt
-
--- a word's call on a cue has the cue's key
-pub cue_call_key : (w : CueWord) (k : ℕ) → CueKey k → CallKey (cue_call w k)
-cue_call_key Add k h = h
-cue_call_key Remove k h = h
-cue_call_key Has k h = h
-cue_call_key Push k h = h
-
 pub request_key : (s : Option Step) → RequestKey (request_of s)
-request_key (Some (WithNumber w e)) = number_key w e
+request_key None = tt
+request_key (Some (WithNumber w e)) = grind arith
 request_key (Some (WithCue w e n)) = go (in_range n.time n.«module» n.pin) refl
   where
+    cue : Cue
+    cue = record { time = n.time; «module» = n.«module»; pin = n.pin }
+
     go : (b : Bool) → in_range n.time n.«module» n.pin ≡ b
-        → ActionKey (call (if b then Some (cue_call w (key_of (record { time = n.time; «module» = n.«module»; pin = n.pin }))) else None))
-    go true h = cue_call_key w _ (key_is_cue_key _ h)
+        → ActionKey (call (if b then Some (cue_call w (key_of cue)) else None))
+    go true h = let k = key_is_cue_key cue h in grind arith
     go false h = tt
-request_key None = tt
 
 perform-Sound : (d : Store) (e : ℕ) (a : Action) → Sound d → RequestKey (request e a)
     → refusal_of d (request e a) ≡ None → Sound (perform d e a).store
@@ -174,12 +163,7 @@ sound_has_room d v =
 -- ---- unwinding
 
 steps_of : (log : List Entry) → max 1 (length log) ≡ suc (further log)
-steps_of [] = refl
-steps_of (n ∷ log) = suc-max-suc 0 (length log) ∙ ap suc (zero-max (length log))
-
-steps_at_most : (log : List Entry) → length log ≤ 16 → max 1 (length log) ≤ 16
-steps_at_most [] h = omega arith
-steps_at_most (n ∷ log) h = rw (steps_of (n ∷ log)) h
+steps_of log = grind arith
 
 pub aborting_unwinds : AbortingUnwinds
 aborting_unwinds d e v h a =
@@ -189,5 +173,5 @@ aborting_unwinds d e v h a =
     record {
       after = rw q (closes e h m m d (omega arith) g);
       before = λ n b. stays e h n m d (rw q at b) g;
-      at_most = steps_at_most (transaction d e).log (transaction-Sound d e v).log_at_most;
+      at_most = omega (arith, (transaction-Sound d e v).log_at_most);
     }

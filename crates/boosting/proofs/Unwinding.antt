@@ -26,20 +26,10 @@ Closed d f = (transaction d f).standing ≡ closed
 
 -- ---- transactions that a step does not name, and closed ones
 
-undo_other : (d : Store) (e f : ℕ) (log : List Entry) → (f ≡ e → ⊥)
-    → transaction (undo_newest d e log).store f ≡ transaction d f
-undo_other d e f [] n = put_other d _ e f _ n
-undo_other d e f (m ∷ log) n = put_other d _ e f _ n
-
 perform_other : (d : Store) (e f : ℕ) (a : Action) → (f ≡ e → ⊥)
     → transaction (perform d e a).store f ≡ transaction d f
 unfolding perform accept
-perform_other d e f begin n = put_other d _ e f _ n
-perform_other d e f commit n = put_other d _ e f _ n
-perform_other d e f abort n = put_other d _ e f _ n
-perform_other d e f roll_back n = rw undo_other
-perform_other d e f (call None) n = refl
-perform_other d e f (call (Some c)) n = put_other d _ e f _ n
+perform_other d e f a n = grind (arith, put_other)
 
 -- a step that asks for an unclosed transaction leaves closed ones closed
 pub step_stays : (d : Store) (e : ℕ) (a : Action) → (asks a ≡ closed → ⊥) → (f : ℕ) → Closed d f
@@ -56,7 +46,7 @@ rolls_stay : (n : ℕ) (d : Store) (e : ℕ) → Closed d e → Closed (roll_bac
 unfolding roll_backs
 rolls_stay zero d e s = s
 rolls_stay (suc n) d e s =
-    rolls_stay n (rolled_back d e) e (step_stays d e roll_back (aborting_unclosed (asks roll_back) refl) e s)
+    rolls_stay n (rolled_back d e) e (step_stays d e roll_back (λ k. cc) e s)
 
 -- ---- one rollback step
 
@@ -66,8 +56,7 @@ further [] = 0
 further (n ∷ log) = length log
 
 pub further_at_most : (log : List Entry) → further log ≤ length log
-further_at_most [] = omega arith
-further_at_most (n ∷ log) = omega arith
+further_at_most log = grind arith
 
 -- what a rollback step leaves of the transaction
 abbrev left : List Entry → Locks → Transaction
@@ -77,15 +66,11 @@ left (n ∷ log) l = unwound log l
 -- it closes if there is no further step; or else it is aborting with one step fewer to take
 closed-left : (log : List Entry) (l : Locks) → further log ≡ 0 → (left log l).standing ≡ closed
 unfolding closed_transaction
-closed-left [] l h = refl
-closed-left (n ∷ []) l h = refl
-closed-left (n ∷ m ∷ log) l h = absurd (omega arith)
+closed-left log l h = grind arith
 
 aborting-left : (log : List Entry) (l : Locks) (m : ℕ) → further log ≡ suc m
     → ((left log l).standing ≡ aborting) × (further (left log l).log ≡ m)
-aborting-left [] l m h = absurd (omega arith)
-aborting-left (n ∷ []) l m h = absurd (omega arith)
-aborting-left (n ∷ k ∷ log) l m h = (refl, omega arith)
+aborting-left log l m h = grind arith
 
 -- an aborting transaction that takes so many steps after the first
 pub record Aborting (d : Store) (e m : ℕ) : Type 0 where
