@@ -22,7 +22,7 @@ use Rattle.boosting.specs.Store.{Transaction}
 use Rattle.boosting.specs.Listing.{lock_line, mode_line, lock_lines, mode_lines, modes_of, listing_of, listing_from}
 use Rattle.boosting.specs.Sound.{Once, SoundTransaction, AllSound}
 use Rattle.boosting.specs.Theorems.{Among, EachOnce, ListingOnce}
-use Rattle.boosting.proofs.Slots.{or_right}
+use Rattle.std.proofs.lemmas.Bool.{or_right}
 
 -- ---- lists of lines
 
