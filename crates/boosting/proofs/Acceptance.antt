@@ -20,18 +20,8 @@ use Rattle.scripts.specs.Script.{read_from, script_of, script_or_empty}
 use Rattle.boosting.specs.Object.{State, effect, reply}
 use Rattle.boosting.specs.Undo.{entry_of, inverse}
 use Rattle.boosting.specs.Locks.{lock_of, no_locks, hold, conflicts}
-use Rattle.boosting.specs.Store.{
-  closed,
-  Transaction,
-  closed_transaction,
-  open_transaction,
-  Store,
-  started,
-  opened,
-  transaction,
-  put,
-  blocker,
-}
+use Rattle.boosting.specs.Store.{closed, Transaction, closed_transaction, open_transaction, Store, started, opened}
+use Rattle.boosting.specs.Store.{transaction, put, blocker}
 use Rattle.boosting.specs.Room.{reserved_by, reserved_in, reserved, takes_by, takes_in, queue_slots}
 use Rattle.boosting.specs.Rows.{first_met, refusal_of}
 use Rattle.boosting.specs.Step.{accept, perform, step_on, step_line}
@@ -41,32 +31,11 @@ use Rattle.boosting.specs.Replay.{replay, replies, calls_of, feed, fed, answers_
 use Rattle.boosting.specs.Listing.{lock_lines, listing_from, listing}
 use Rattle.boosting.specs.Sound.{Sound}
 use Rattle.boosting.specs.Theorems.{Term3Rising, OpenedIsSound, RunKeepsSound, EachOnce, ListingOnce}
-use Rattle.boosting.specs.Acceptance.{
-  Case,
-  stepped,
-  Term3At,
-  no_and_empty,
-  LockForNoAndEmpty,
-  half_undone,
-  LocksUntilTheLastBack,
-  full_script,
-  SlotUntilItsEditCloses,
-  add_then_remove,
-  UndoNewestFirst,
-  full_queue,
-  NoRefusedCallInTheReplay,
-  added_then_removed,
-  CommitsInOrder,
-  begun_again,
-  BeginIsANewEdit,
-  has_on25_cues,
-  CueLocks24,
-  pushes17,
-  UndoEntries16,
-  QueueSlots64,
-  AnswersAlone,
-  ModeListedOnce,
-}
+use Rattle.boosting.specs.Acceptance.{Case, stepped, Term3At, no_and_empty, LockForNoAndEmpty, half_undone}
+use Rattle.boosting.specs.Acceptance.{LocksUntilTheLastBack, full_script, SlotUntilItsEditCloses, add_then_remove}
+use Rattle.boosting.specs.Acceptance.{UndoNewestFirst, full_queue, NoRefusedCallInTheReplay, added_then_removed}
+use Rattle.boosting.specs.Acceptance.{CommitsInOrder, begun_again, BeginIsANewEdit, has_on25_cues, CueLocks24, pushes17}
+use Rattle.boosting.specs.Acceptance.{UndoEntries16, QueueSlots64, AnswersAlone, ModeListedOnce}
 
 -- ---- a test that fails refutes its theorem
 

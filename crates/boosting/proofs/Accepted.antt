@@ -1,9 +1,8 @@
 -- What follows from a request being refused or not, and which requests of recovery are accepted: read off the rows,
 -- once. Assumes nothing.
 use Prim.Native.Nat.{ℕ}
-use mathlib.Core.Path.{◌≡◌, refl, sym, ap}
-use mathlib.Core.Bool.{Bool, true, false, not, ◌&&◌}
-use mathlib.Core.List.{List, [], ◌∷◌}
+use mathlib.Core.Path.{◌≡◌, refl, ap}
+use mathlib.Core.Bool.{true, false}
 use Rattle.std.specs.Prelude.{Option, None, Some}
 use native.Mathlib.Omega.{arith}
 use Rattle.refusals.specs.declared.Refusal.{Refusal}
@@ -13,25 +12,7 @@ use Rattle.boosting.specs.Undo.{entry_of}
 use Rattle.boosting.specs.Locks.{lock_of}
 use Rattle.boosting.specs.Store.{Standing, closed, «open», aborting, Store, valid, transaction, blocker}
 use Rattle.boosting.specs.Room.{reserved, queue_slots, locks_full, log_full, script_full, queue_full}
-use Rattle.boosting.specs.Rows.{
-  Action,
-  begin,
-  commit,
-  abort,
-  roll_back,
-  call,
-  Request,
-  request,
-  is_closed,
-  is_aborting,
-  is_begin,
-  is_roll_back,
-  when,
-  blocked_by,
-  rows_of,
-  first_met,
-  refusal_of,
-}
+use Rattle.boosting.specs.Rows.{Action, begin, abort, roll_back, call, Request, request, first_met, refusal_of}
 use Rattle.boosting.specs.Step.{perform, refuse, step_on}
 
 abbrev pub Accepts : Store → ℕ → Action → Type 0

@@ -1,49 +1,25 @@
 -- Term 2: a call waits exactly when another unclosed transaction holds a conflicting lock, and an accepted call does
 -- what the plain operation does. Assumes nothing.
 use Prim.Native.Nat.{ℕ, zero, suc, ◌+◌, ◌-◌, ◌<◌, ◌≤◌}
-use mathlib.Core.Path.{◌≡◌, refl, sym, ap, ◌∙◌}
+use mathlib.Core.Path.{◌≡◌, refl, ap, ◌∙◌}
 use mathlib.Core.Bool.{Bool, true, false}
 use mathlib.Core.List.{List, [], ◌∷◌}
 use Rattle.std.specs.Prelude.{Option, None, Some, ◌↔◌}
 use Rattle.std.proofs.lemmas.Bool.{cases_order}
 use Rattle.std.proofs.lemmas.Grind.{get_or_head, get_or_tail}
-use native.Mathlib.Nat.{le_of_suc-le-suc, not-suc-le-zero}
 use native.Mathlib.Omega.{arith}
-use lib.Dec.{eqb}
 use lib.ListN.{length, get_or}
-use borrow.Author.Tests.{eqb-true, eqb-false, ne_eqb}
-use Rattle.refusals.specs.declared.Refusal.{Refusal}
 use Rattle.refusals.specs.declared.Refusal.TheVariants.{Blocked, LocksFull, UndoLogFull, ScriptFull, QueueFull}
-use Rattle.answers.specs.declared.Answer.TheVariants.{Refused}
-use Rattle.tables.proofs.Laws.{split}
 use Rattle.boosting.specs.Object.{Call, effect, reply}
 use Rattle.boosting.specs.Undo.{entry_of, noted}
 use Rattle.boosting.specs.Locks.{Lock, lock_of, hold, holds, conflicts}
-use Rattle.boosting.specs.Store.{
-  closed,
-  «open»,
-  Transaction,
-  closed_transaction,
-  Store,
-  valid,
-  transaction,
-  put,
-  blocker,
-}
-use Rattle.boosting.specs.Room.{reserved, queue_slots, locks_full, log_full, script_full, queue_full}
-use Rattle.boosting.specs.Rows.{call, request, when, blocked_by, call_rows, first_met, refusal_of}
-use Rattle.boosting.specs.Step.{accept, perform, step_on}
+use Rattle.boosting.specs.Store.{«open», Transaction, closed_transaction, Store, valid, transaction, put, blocker}
+use Rattle.boosting.specs.Rows.{call, request, when, blocked_by, first_met, refusal_of}
+use Rattle.boosting.specs.Step.{accept, perform}
 use Rattle.boosting.specs.Sound.{Sound}
 use Rattle.boosting.specs.Theorems.{InTheWay, BlockedExactly, Done, AcceptedCallsDo}
 use Rattle.boosting.proofs.ObjectLaws.{no_locks_no_conflict, holds_new}
-use Rattle.boosting.proofs.StoreLaws.{
-  range_valid,
-  not_zero,
-  put_same,
-  put_other,
-  put-state,
-  no_conflict,
-}
+use Rattle.boosting.proofs.StoreLaws.{range_valid, not_zero, put_same, put_other, put-state, no_conflict}
 use Rattle.boosting.proofs.Accepted.{accepted_valid, step_accepted}
 use Rattle.boosting.proofs.Refusals.{refused_exactly}
 use Rattle.boosting.proofs.Keeping.{transaction-Sound}

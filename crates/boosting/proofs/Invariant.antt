@@ -2,59 +2,23 @@
 -- committed transactions in commit order, and then a trace of the unclosed transactions' calls; with the same
 -- replies. Calls of different transactions in the trace change places, each has its lock held, each log has the
 -- entries of its transaction's calls. Shown here: begin, call, commit, and taking back keep it. Assumes nothing.
-use Prim.Native.Nat.{ℕ, zero, suc, ◌+◌}
-use mathlib.Core.Path.{◌≡◌, refl, sym, ap}
-use mathlib.Core.Bool.{Bool, true, false, cond}
+use Prim.Native.Nat.{ℕ}
+use mathlib.Core.Path.{◌≡◌}
+use mathlib.Core.Bool.{true, cond}
 use mathlib.Core.List.{List, [], ◌∷◌, ◌++◌}
-use mathlib.Core.Logic.{inl, inr}
 use Rattle.std.specs.Prelude.{None}
 use native.Mathlib.Omega.{arith}
 use lib.Dec.{eqb}
-use lib.ListN.{length, get_or}
-use borrow.Author.Tests.{eq-eqb, ne_eqb}
+use lib.ListN.{length}
 use Rattle.std.proofs.lemmas.Bool.{cases_eq}
 use Rattle.boosting.specs.Object.{Call, State, effect, reply}
 use Rattle.boosting.specs.Undo.{entry_of, noted}
-use Rattle.boosting.specs.Locks.{Lock, Locks, lock_of, hold, holds, conflicts}
-use Rattle.boosting.specs.Store.{
-  closed,
-  «open»,
-  Transaction,
-  closed_transaction,
-  open_transaction,
-  Store,
-  transaction,
-  blocker,
-}
-use Rattle.boosting.proofs.ObjectLaws.{
-  Good,
-  Free,
-  Free-sym,
-  no_locks_no_conflict,
-  holds_new,
-  holds_old,
-  locks_sound,
-}
+use Rattle.boosting.specs.Locks.{lock_of, hold, holds}
+use Rattle.boosting.specs.Store.{closed, «open», Transaction, open_transaction, Store, transaction, blocker}
+use Rattle.boosting.proofs.ObjectLaws.{Good, Free, Free-sym, holds_new, holds_old, locks_sound}
 use Rattle.boosting.proofs.StoreLaws.{Changed, no_conflict}
-use Rattle.boosting.proofs.Trace.{
-  Item,
-  play,
-  Same,
-  In,
-  mine,
-  others,
-  entries,
-  Clear,
-  play-Good,
-  play-append,
-  Same-append,
-  In-others,
-  mine_none,
-  none_of,
-  split,
-  mine-others,
-  Cut,
-}
+use Rattle.boosting.proofs.Trace.{Item, play, Same, In, mine, others, entries, Clear, play-Good, play-append}
+use Rattle.boosting.proofs.Trace.{Same-append, In-others, mine_none, none_of, split, mine-others, Cut}
 
 -- ---- the invariant
 

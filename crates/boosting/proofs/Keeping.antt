@@ -1,78 +1,32 @@
 -- Sound after each kind of accepted step. A step puts a state and one transaction: what it puts must be sound by
 -- itself, and the slots must suffice (`Fits`); nothing else can change. Assumes nothing.
 use Prim.Native.Nat.{ℕ, zero, suc, ◌+◌, ◌≤◌}
-use mathlib.Core.Path.{◌≡◌, refl, sym, ◌∙◌}
+use mathlib.Core.Path.{◌≡◌, refl, ◌∙◌}
 use mathlib.Core.Bool.{Bool, true, false, cond, not, ◌&&◌, ◌||◌}
 use mathlib.Core.List.{List, [], ◌∷◌, ◌++◌}
 use Rattle.std.specs.Prelude.{Option, None, Some}
 use native.Mathlib.Omega.{arith}
-use lib.Dec.{eqb, leb}
-use lib.ListN.{length, get_or, set, length-set, length-append}
-use borrow.Author.Tests.{leb-false, eqb-true, ne_eqb}
+use lib.ListN.{length, get_or, set, length-set}
 use Rattle.std.proofs.lemmas.Bool.{cases_Bool}
 use Rattle.std.proofs.lemmas.List.{length_push}
 use Rattle.cues.specs.Cue.{CueKey}
 use Rattle.tables.specs.Table.{Ordered, member_of, insert_of, delete_of, put_once_of}
-use Rattle.tables.proofs.Laws.{
-  split,
-  Apart-zero,
-  insert_ordered,
-  delete_ordered,
-  once_ordered,
-  member_once,
-  length_insert,
-  length_delete,
-  delete_absent,
-  member_head,
-  member_tail,
-}
+use Rattle.tables.proofs.Laws.{Apart-zero, insert_ordered, delete_ordered, once_ordered, member_once, length_insert}
+use Rattle.tables.proofs.Laws.{length_delete, delete_absent}
 use Rattle.scripts.specs.Theorems.{AllCues}
 use Rattle.scripts.proofs.Theorems.{all_insert}
-use Rattle.boosting.specs.Object.{
-  Call,
-  add,
-  remove,
-  has,
-  push,
-  min,
-  take,
-  is_yes,
-  is_no,
-  State,
-  tail,
-  least,
-  effect,
-  reply,
-}
-use Rattle.boosting.specs.Undo.{Entry, added, removed, pushed, taken, on_yes, on_cue, entry_of, inverse, noted}
-use Rattle.boosting.specs.Locks.{cue_lock, push_mode, look_mode, take_mode, Locks, no_locks, lock_of, hold}
-use Rattle.boosting.specs.Store.{
-  Standing,
-  closed,
-  «open»,
-  aborting,
-  Transaction,
-  closed_transaction,
-  open_transaction,
-  Store,
-  valid,
-  transaction,
-  put,
-}
+use Rattle.boosting.specs.Object.{Call, State, effect, reply}
+use Rattle.boosting.specs.Undo.{Entry, added, entry_of, inverse, noted}
+use Rattle.boosting.specs.Locks.{Locks, no_locks, lock_of, hold}
+use Rattle.boosting.specs.Store.{Standing, «open», aborting, Transaction, closed_transaction, open_transaction, Store}
+use Rattle.boosting.specs.Store.{valid, transaction, put}
 use Rattle.boosting.specs.Room.{reserved, takes_by, takes_in, locks_full, log_full, script_full, queue_full}
 use Rattle.boosting.specs.Rows.{is_closed}
 use Rattle.boosting.specs.Step.{accept, unwound, undo_newest, aborted}
 use Rattle.boosting.specs.Sound.{Once, key_in, AllEntries, SoundTransaction, AllSound, Sound, CallKey}
 use Rattle.boosting.proofs.Sorted.{member_end}
-use Rattle.boosting.proofs.ObjectLaws.{tail_good}
 use Rattle.boosting.proofs.StoreLaws.{not_zero}
-use Rattle.boosting.proofs.Slots.{
-  named,
-  script-reserved,
-  named-reserved,
-  slots_put,
-  takes_put,
-}
+use Rattle.boosting.proofs.Slots.{named, script-reserved, named-reserved, slots_put, takes_put}
 use Rattle.boosting.proofs.Accepted.{CallAccepted}
 
 -- ---- keys in range

@@ -3,74 +3,22 @@
 -- back; a lock taken is held and stays held; no locks, no conflict; calls whose locks do not conflict change places.
 -- Whoever changes a call, an entry or a lock proves these again, and nothing below. Assumes nothing.
 use Prim.Native.Nat.{ℕ}
-use mathlib.Core.Path.{◌≡◌, refl, sym, ap, ◌∙◌}
-use mathlib.Core.Bool.{Bool, true, false, cond, ◌||◌}
-use mathlib.Core.List.{List, [], ◌∷◌, ◌++◌}
-use mathlib.Core.Logic.{◌⊎◌, inl, inr}
+use mathlib.Core.Path.{◌≡◌, sym}
+use mathlib.Core.Bool.{true, false}
+use mathlib.Core.List.{List, [], ◌∷◌}
 use Rattle.std.specs.Prelude.{None, Some}
 use native.Mathlib.Omega.{arith}
-use borrow.Author.Tests.{eq-eqb}
 use Rattle.tables.specs.Table.{Ordered, member_of, put_once_of}
-use Rattle.tables.proofs.Laws.{
-  From-weaken,
-  member_delete_other,
-  delete_absent,
-  Apart-zero,
-  insert_ordered,
-  delete_ordered,
-  once_ordered,
-}
-use Rattle.boosting.specs.Object.{
-  Call,
-  add,
-  remove,
-  has,
-  push,
-  min,
-  take,
-  Reply,
-  is_yes,
-  is_no,
-  is_ok,
-  is_empty,
-  is_cue,
-  State,
-  tail,
-  least,
-  script_after,
-  queue_after,
-  effect,
-  reply,
-  answer_of,
-}
-use Rattle.boosting.specs.Undo.{Entry, added, removed, pushed, taken, on_yes, on_cue, entry_of, inverse}
-use Rattle.boosting.specs.Locks.{
-  Lock,
-  cue_lock,
-  push_mode,
-  look_mode,
-  take_mode,
-  lock_of,
-  Locks,
-  no_locks,
-  hold,
-  holds,
-  conflicts,
-}
+use Rattle.tables.proofs.Laws.{From-weaken, member_delete_other, delete_absent, Apart-zero, insert_ordered}
+use Rattle.tables.proofs.Laws.{delete_ordered, once_ordered}
+use Rattle.boosting.specs.Object.{Call, add, remove, push, take, Reply, State, tail, effect, reply, answer_of}
+use Rattle.boosting.specs.Undo.{Entry, entry_of, inverse}
+use Rattle.boosting.specs.Locks.{Lock, cue_lock, push_mode, look_mode, take_mode, lock_of, Locks, no_locks, hold, holds}
+use Rattle.boosting.specs.Locks.{conflicts}
 use Rattle.boosting.specs.Store.{started}
 use Rattle.boosting.specs.Replay.{is_refused}
-use Rattle.boosting.proofs.Sorted.{
-  insert_comm,
-  delete_comm,
-  insert_head,
-  member_once_other,
-  once_once,
-  once_delete,
-  delete_insert,
-  member_delete_self,
-  insert_delete,
-  member_end,
-}
+use Rattle.boosting.proofs.Sorted.{insert_comm, delete_comm, insert_head, member_once_other, once_once, once_delete}
+use Rattle.boosting.proofs.Sorted.{delete_insert, member_delete_self, insert_delete, member_end}
 
 -- the states that the laws speak of
 pub record Good (s : State) : Type 0 where

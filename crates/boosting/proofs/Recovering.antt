@@ -1,8 +1,8 @@
 -- Recovery keeps the invariant with the same settled calls, leaves closed transactions closed, and closes each
 -- transaction that it is told to recover: an abort leaves it not open, and rollback steps close it. Assumes nothing.
 use Prim.Native.Nat.{ℕ, zero, suc, ◌≤◌}
-use mathlib.Core.Path.{◌≡◌, refl, ap}
-use mathlib.Core.Bool.{Bool, true, false}
+use mathlib.Core.Path.{◌≡◌, refl}
+use mathlib.Core.Bool.{true, false}
 use mathlib.Core.List.{List, [], ◌∷◌}
 use Rattle.std.specs.Prelude.{Option, None, Some}
 use native.Mathlib.Omega.{arith}
@@ -12,17 +12,7 @@ use Rattle.std.proofs.lemmas.List.{get_or_past}
 use Rattle.refusals.specs.declared.Refusal.{Refusal}
 use Rattle.tables.specs.Table.{member_of}
 use Rattle.boosting.specs.Object.{State}
-use Rattle.boosting.specs.Store.{
-  Standing,
-  closed,
-  «open»,
-  aborting,
-  Transaction,
-  closed_transaction,
-  Store,
-  valid,
-  transaction,
-}
+use Rattle.boosting.specs.Store.{Standing, closed, «open», aborting, closed_transaction, Store, valid, transaction}
 use Rattle.boosting.specs.Rows.{Action, abort, roll_back, request, refusal_of}
 use Rattle.boosting.specs.Step.{aborted, perform, step_on}
 use Rattle.boosting.specs.Recovery.{roll_backs, recover_one, recover}

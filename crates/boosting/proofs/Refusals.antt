@@ -1,70 +1,23 @@
 -- Term 1: a refused line changes nothing, and a row is met exactly when its condition holds and no earlier row is met.
 -- Assumes nothing.
 use Prim.Native.Nat.{ℕ}
-use mathlib.Core.Path.{◌≡◌, refl, sym, ap, ◌∙◌}
-use mathlib.Core.Bool.{Bool, true, false, not, ◌&&◌}
+use mathlib.Core.Path.{◌≡◌, ap}
+use mathlib.Core.Bool.{false}
 use mathlib.Core.List.{List, [], ◌∷◌}
-use mathlib.Core.Logic.{inl, inr, ◌↔◌}
+use mathlib.Core.Logic.{◌↔◌}
 use Rattle.std.specs.Prelude.{Option, None, Some}
 use native.Mathlib.Omega.{arith}
 use Rattle.refusals.specs.declared.Refusal.{Refusal}
-use Rattle.refusals.specs.declared.Refusal.TheVariants.{
-  TransactionOutOfRange,
-  AlreadyBegun,
-  NotBegun,
-  NotAborting,
-  CueOutOfRange,
-  Blocked,
-  LocksFull,
-  UndoLogFull,
-  ScriptFull,
-  QueueFull,
-  TextTooLong,
-  BufferTooShort,
-}
-use Rattle.refusals.specs.declared.Refusal.TheVariants.{Malformed as MalformedLine, Aborting as IsAborting}
+use Rattle.refusals.specs.declared.Refusal.TheVariants.{Malformed as MalformedLine}
 use Rattle.steps.specs.Step.{step_of}
 use Rattle.steps.specs.declared.reading.Step.{Step}
-use Rattle.steps.specs.declared.reading.Step.TheVariants.{WithNumber, WithCue}
 use Rattle.answers.specs.declared.Answer.TheVariants.{Refused}
-use Rattle.boosting.specs.Object.{reply}
-use Rattle.boosting.specs.Undo.{Entry, entry_of}
-use Rattle.boosting.specs.Locks.{lock_of}
-use Rattle.boosting.specs.Store.{Store, valid, transaction, blocker}
-use Rattle.boosting.specs.Room.{reserved, queue_slots, locks_full, log_full, script_full, queue_full}
-use Rattle.boosting.specs.Rows.{
-  Action,
-  begin,
-  commit,
-  abort,
-  roll_back,
-  call,
-  Request,
-  request,
-  request_of,
-  is_closed,
-  is_aborting,
-  is_begin,
-  is_roll_back,
-  cue_in_range,
-  when,
-  blocked_by,
-  lock_rows,
-  rows_of,
-  first_met,
-  refusal_of,
-}
-use Rattle.boosting.specs.Step.{Out, accept, undo_newest, perform, step_on, step_line}
+use Rattle.boosting.specs.Store.{Store}
+use Rattle.boosting.specs.Rows.{Action, call, Request, request, request_of, rows_of, first_met, refusal_of}
+use Rattle.boosting.specs.Step.{Out, accept, perform, step_on, step_line}
 use Rattle.boosting.specs.Replay.{is_refused}
-use Rattle.boosting.specs.Theorems.{
-  RefusalsChangeNothing,
-  FirstOf,
-  RowsDecide,
-  MalformedExactly,
-  AcceptedExactly,
-}
-use Rattle.boosting.proofs.ObjectLaws.{reply_not_refused}
-use Rattle.boosting.proofs.Accepted.{Accepts, no_call, malformed_refused, step_refused, step_accepted}
+use Rattle.boosting.specs.Theorems.{RefusalsChangeNothing, FirstOf, RowsDecide, MalformedExactly, AcceptedExactly}
+use Rattle.boosting.proofs.Accepted.{Accepts, no_call, malformed_refused, step_refused}
 
 -- what is performed is not answered by a refusal
 pub perform_accepted : (d : Store) (e : ℕ) (a : Action) → Accepts d e a → is_refused (perform d e a).answer ≡ false

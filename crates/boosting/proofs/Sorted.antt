@@ -7,15 +7,8 @@ use mathlib.Core.List.{List, [], ◌∷◌, ◌++◌}
 use native.Mathlib.Omega.{arith}
 use lib.Dec.{eqb}
 use Rattle.tables.specs.Table.{From, Ordered, member_of, insert_of, delete_of, put_once_of}
-use Rattle.tables.proofs.Laws.{
-  From-none,
-  From-weaken,
-  Ordered-weaken,
-  member_from,
-  member_insert,
-  member_once,
-  member_delete_other,
-}
+use Rattle.tables.proofs.Laws.{From-none, From-weaken, Ordered-weaken, member_from, member_insert, member_once}
+use Rattle.tables.proofs.Laws.{member_delete_other}
 
 -- ---- changing places
 

@@ -1,66 +1,36 @@
 -- The theorems on what opening, stepping and recovery keep, and that an aborting transaction unwinds in as many steps
 -- as it has entries. Assumes nothing.
 use Prim.Native.Nat.{ℕ, zero, suc, ◌≤◌, max}
-use mathlib.Core.Path.{◌≡◌, refl, ap, ◌∙◌}
+use mathlib.Core.Path.{◌≡◌, refl}
 use mathlib.Core.List.{List, [], ◌∷◌}
 use Rattle.std.specs.Prelude.{Bool, true, false, if◌then◌else◌, Option, None, Some}
-use native.Mathlib.Nat.{suc-max-suc, zero-max}
 use native.Mathlib.Omega.{arith}
 use lib.ListN.{length, replicate}
 use Rattle.refusals.specs.declared.Refusal.{Refusal}
-use Rattle.cues.specs.Cue.{in_range, key_of, CueKey}
+use Rattle.cues.specs.Cue.{in_range, key_of}
 use Rattle.cues.specs.declared.Cue.{Cue}
 use Rattle.cues.proofs.Theorems.{key_is_cue_key}
 use Rattle.steps.specs.declared.reading.Step.{Step}
 use Rattle.steps.specs.declared.reading.Step.TheVariants.{WithNumber, WithCue}
-use Rattle.step_words.specs.declared.NumberWord.{NumberWord}
-use Rattle.step_words.specs.declared.NumberWord.TheVariants.{Begin, Min, Take, Commit, Undo, Back}
-use Rattle.step_words.specs.declared.CueWord.{CueWord}
-use Rattle.step_words.specs.declared.CueWord.TheVariants.{Add, Remove, Has, Push}
 use Rattle.steps.specs.Step.{step_of}
 use Rattle.tables.proofs.Laws.{subset_length}
 use Rattle.scripts.proofs.Theorems.{read_is_sound}
 use Rattle.boosting.specs.Undo.{Entry}
 use Rattle.boosting.specs.Store.{closed_transaction, Store, started, opened, transaction}
 use Rattle.boosting.specs.Room.{reserved_by, reserved_in, reserved, takes_by, takes_in}
-use Rattle.boosting.specs.Rows.{
-  Action,
-  begin,
-  commit,
-  abort,
-  roll_back,
-  call,
-  Request,
-  request,
-  number_action,
-  cue_call,
-  request_of,
-  refusal_of,
-}
+use Rattle.boosting.specs.Rows.{Action, begin, commit, abort, roll_back, call, Request, request, cue_call, request_of}
+use Rattle.boosting.specs.Rows.{refusal_of}
 use Rattle.boosting.specs.Step.{perform, decided, step_on, step_line}
 use Rattle.boosting.specs.Run.{Run, advance, run_from}
 use Rattle.boosting.specs.Recovery.{roll_backs, recover_one, recover}
-use Rattle.boosting.specs.Sound.{AllSound, Sound, CallKey, ActionKey, RequestKey}
-use Rattle.boosting.specs.Theorems.{
-  OpenedIsSound,
-  SteppingKeepsSound,
-  RunKeepsSound,
-  RecoveryKeepsSound,
-  SoundHasRoom,
-  AbortingUnwinds,
-}
+use Rattle.boosting.specs.Sound.{AllSound, Sound, ActionKey, RequestKey}
+use Rattle.boosting.specs.Theorems.{OpenedIsSound, SteppingKeepsSound, RunKeepsSound, RecoveryKeepsSound, SoundHasRoom}
+use Rattle.boosting.specs.Theorems.{AbortingUnwinds}
 use Rattle.boosting.proofs.Slots.{script-reserved}
 use Rattle.boosting.proofs.Accepted.{accepted_valid, accepted_call}
 use Rattle.boosting.proofs.Unwinding.{further, Aborting, closes, stays}
-use Rattle.boosting.proofs.Keeping.{
-  closed_sound,
-  transaction-Sound,
-  begin_sound,
-  close_sound,
-  abort_sound,
-  undo_sound,
-  call_sound,
-}
+use Rattle.boosting.proofs.Keeping.{closed_sound, transaction-Sound, begin_sound, close_sound, abort_sound, undo_sound}
+use Rattle.boosting.proofs.Keeping.{call_sound}
 
 -- ---- opening
 

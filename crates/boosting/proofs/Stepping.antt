@@ -5,38 +5,15 @@ use mathlib.Core.Path.{◌≡◌, refl, sym}
 use mathlib.Core.Bool.{true}
 use mathlib.Core.List.{List, [], ◌∷◌, ◌++◌, append-nil}
 use Rattle.std.specs.Prelude.{None, Some}
-use native.Mathlib.Omega.{arith}
 use Rattle.boosting.specs.Object.{Call, State, effect, reply}
-use Rattle.boosting.specs.Undo.{Entry, entry_of, inverse, noted}
-use Rattle.boosting.specs.Locks.{lock_of, hold}
-use Rattle.boosting.specs.Store.{
-  Standing,
-  closed,
-  «open»,
-  aborting,
-  Transaction,
-  closed_transaction,
-  open_transaction,
-  Store,
-  valid,
-  transaction,
-  put,
-}
+use Rattle.boosting.specs.Undo.{Entry, inverse}
+use Rattle.boosting.specs.Store.{«open», aborting, Transaction, closed_transaction, open_transaction, Store, valid}
+use Rattle.boosting.specs.Store.{transaction, put}
 use Rattle.boosting.specs.Rows.{Action, begin, commit, abort, roll_back, call, request}
 use Rattle.boosting.specs.Step.{accept, undo_newest, aborted, perform}
 use Rattle.boosting.specs.Replay.{since, committed}
 use Rattle.boosting.proofs.ObjectLaws.{Good}
-use Rattle.boosting.proofs.Trace.{
-  Item,
-  play,
-  mine,
-  entries,
-  undo_all,
-  play-Good,
-  Cut,
-  cut,
-  newest,
-}
+use Rattle.boosting.proofs.Trace.{Item, play, mine, entries, undo_all, play-Good, Cut, cut, newest}
 use Rattle.boosting.proofs.StoreLaws.{changed}
 use Rattle.boosting.proofs.Invariant.{Invariant, begin_keeps, call_keeps, commit_keeps, cut_keeps}
 use Rattle.boosting.proofs.Accepted.{Accepts, asks, accepted_valid, accepted_standing, no_call, accepted_call}

@@ -4,27 +4,16 @@ use Prim.Native.Nat.{ℕ, zero, suc, ◌+◌, ◌≤◌, ◌<◌}
 use mathlib.Core.Path.{◌≡◌, refl, ap}
 use mathlib.Core.Bool.{Bool, true, false, ◌&&◌}
 use mathlib.Core.List.{List, [], ◌∷◌}
-use Rattle.std.specs.Prelude.{None, Some}
+use Rattle.std.specs.Prelude.{None}
 use native.Mathlib.Omega.{arith}
-use lib.Dec.{eqb, leb}
+use lib.Dec.{leb}
 use lib.ListN.{length, get_or, length-set}
 use lib.Seq.{get_or-set_same, get_or-set_other}
 use borrow.Author.Tests.{leb-true, le-leb}
 use Rattle.boosting.specs.Object.{State}
 use Rattle.boosting.specs.Locks.{Lock, Locks, conflicts}
-use Rattle.boosting.specs.Store.{
-  Standing,
-  closed,
-  «open»,
-  aborting,
-  Transaction,
-  closed_transaction,
-  Store,
-  valid,
-  transaction,
-  put,
-  blocker,
-}
+use Rattle.boosting.specs.Store.{Standing, closed, «open», aborting, Transaction, closed_transaction, Store, valid}
+use Rattle.boosting.specs.Store.{transaction, put, blocker}
 use Rattle.boosting.proofs.ObjectLaws.{no_locks_no_conflict}
 
 -- ---- numbers

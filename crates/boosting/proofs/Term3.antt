@@ -1,9 +1,9 @@
 -- Term 3: a run keeps the invariant, and the lists that the replay takes from the history are the calls and answers
 -- of the invariant's settled items; after recovery no transaction is unclosed, so the trace is empty and the state
 -- is the replay's. Assumes nothing.
-use Prim.Native.Nat.{ℕ, zero, suc, ◌≤◌}
+use Prim.Native.Nat.{ℕ}
 use mathlib.Core.Path.{◌≡◌, refl, sym, ap, ◌∙◌, subst}
-use mathlib.Core.Bool.{Bool, true, false, cond}
+use mathlib.Core.Bool.{true, false}
 use mathlib.Core.List.{List, [], ◌∷◌, ◌++◌, map, map-append, reverse, reverse-cons}
 use mathlib.Core.Logic.{inl}
 use Rattle.std.specs.Prelude.{Option, None, Some}
@@ -16,48 +16,13 @@ use Rattle.tables.specs.Table.{member_of}
 use Rattle.scripts.specs.Script.{script_of, script_or_empty}
 use Rattle.scripts.proofs.Theorems.{read_is_sound}
 use Rattle.boosting.specs.Object.{Call, State, effect, reply, answer_of}
-use Rattle.boosting.specs.Store.{
-  Standing,
-  closed,
-  «open»,
-  aborting,
-  Store,
-  started,
-  opened,
-  valid,
-  transaction,
-}
-use Rattle.boosting.specs.Rows.{
-  Action,
-  begin,
-  commit,
-  abort,
-  roll_back,
-  call,
-  Request,
-  request,
-  request_of,
-  refusal_of,
-}
+use Rattle.boosting.specs.Store.{Standing, closed, Store, started, opened, valid, transaction}
+use Rattle.boosting.specs.Rows.{Action, call, Request, request, request_of, refusal_of}
 use Rattle.boosting.specs.Step.{Out, accept, perform, step_on, step_line}
 use Rattle.boosting.specs.Run.{Event, Run, begun, advance, run_from, run}
 use Rattle.boosting.specs.Recovery.{recover, rising}
-use Rattle.boosting.specs.Replay.{
-  replay,
-  replies,
-  seen,
-  is_refused,
-  since,
-  since_action,
-  calls_of,
-  committed,
-  committed_action,
-  feed,
-  fed,
-  answers_of,
-  heard_back,
-  heard,
-}
+use Rattle.boosting.specs.Replay.{replay, replies, seen, is_refused, since, calls_of, committed, feed, fed, answers_of}
+use Rattle.boosting.specs.Replay.{heard_back, heard}
 use Rattle.boosting.specs.Theorems.{Covers, Term3, Term3Rising}
 use Rattle.boosting.proofs.Acceptance.{eight_closed}
 use Rattle.boosting.proofs.ObjectLaws.{Good, started-Good}

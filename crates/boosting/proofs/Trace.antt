@@ -9,8 +9,7 @@ use mathlib.Core.Logic.{◌⊎◌, inl, inr}
 use Rattle.std.specs.Prelude.{Option, None, Some}
 use native.Mathlib.Omega.{arith}
 use lib.Dec.{eqb}
-use borrow.Author.Tests.{eq-eqb, ne_eqb}
-use Rattle.std.proofs.lemmas.Bool.{cases_eq}
+use borrow.Author.Tests.{ne_eqb}
 use Rattle.boosting.specs.Object.{Call, Reply, State, effect, reply}
 use Rattle.boosting.specs.Undo.{Entry, entry_of, inverse, noted}
 use Rattle.boosting.proofs.ObjectLaws.{Good, Commute, Free, effect-Good, idle, cancel}

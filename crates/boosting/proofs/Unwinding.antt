@@ -12,10 +12,10 @@ use Rattle.refusals.specs.declared.Refusal.{Refusal}
 use Rattle.boosting.specs.Undo.{Entry, inverse}
 use Rattle.boosting.specs.Locks.{Locks}
 use Rattle.boosting.specs.Store.{closed, aborting, Transaction, closed_transaction, Store, valid, transaction}
-use Rattle.boosting.specs.Rows.{Action, begin, commit, abort, roll_back, call, request, refusal_of}
+use Rattle.boosting.specs.Rows.{Action, roll_back, request, refusal_of}
 use Rattle.boosting.specs.Step.{accept, unwound, undo_newest, perform, step_on}
 use Rattle.boosting.specs.Recovery.{roll_backs}
-use Rattle.boosting.proofs.StoreLaws.{put_other, Changed, changed, aborting_unclosed}
+use Rattle.boosting.proofs.StoreLaws.{put_other, Changed, changed}
 use Rattle.boosting.proofs.Accepted.{asks, accepted_standing, step_refused, step_accepted, Accepts-roll_back}
 
 abbrev pub rolled_back : Store → ℕ → Store
