@@ -31,10 +31,6 @@ use Rattle.boosting.proofs.Accepted.{CallAccepted}
 
 -- ---- keys in range
 
-abbrev NotedKey : Option Entry → Type 0
-NotedKey None = Unit {0}
-NotedKey (Some n) = CueKey (key_in n)
-
 all_once : (k : ℕ) (l : List ℕ) → CueKey k → AllCues l → AllCues (put_once_of k l)
 unfolding put_once_of
 all_once k l g c = grind (arith, all_insert)
@@ -55,25 +51,6 @@ unfolding member_of
 Once-append k [] m o = (refl, tt)
 Once-append k (x ∷ l) m o = grind (arith, member_end x k l, Once-append k l)
 
-record SoundLocks (l : Locks) : Type 0 where
-  pub at_most : length l.cues ≤ 24
-  pub once : Once l.cues
-  pub in_range : AllCues l.cues
-
-lock_held : (c : Call) (l : Locks) → CallKey c → locks_full (lock_of c) l ≡ false → SoundLocks l
-    → SoundLocks (hold (lock_of c) l)
-unfolding lock_of hold
-lock_held c l g f s = grind (arith, length_push, Once-append, all_append)
-
--- ---- the log with one entry more
-
-noted_at_most : (n : Option Entry) (log : List Entry) → log_full n log ≡ false → length log ≤ 16
-    → length (noted n log) ≤ 16
-noted_at_most n log f h = grind arith
-
-noted_in_range : (n : Option Entry) (log : List Entry) → NotedKey n → AllEntries log → AllEntries (noted n log)
-noted_in_range n log g a = grind arith
-
 -- ---- states
 
 record SoundState (s : State) : Type 0 where
@@ -84,10 +61,6 @@ record SoundState (s : State) : Type 0 where
 
 state_of_lem : (d : Store) → Sound d → SoundState d.state
 state_of_lem d v = grind arith
-
-entry_key : (c : Call) (s : State) → CallKey c → SoundState s → NotedKey (entry_of c (reply c s))
-unfolding entry_of reply
-entry_key c s g v = grind arith
 
 insert_rising : (k : ℕ) (q : List ℕ) → Ordered 0 q → Ordered 0 (insert_of k q)
 insert_rising k q = insert_ordered 0 k q (omega arith) (Apart-zero k q)
@@ -104,13 +77,13 @@ inverse_sound n s g v =
 
 -- ---- transactions
 
-locks_of_lem : (t : Transaction) → SoundTransaction t → SoundLocks t.locks
-locks_of_lem t v = grind arith
-
--- an unclosed transaction is sound if its locks and its log are
-unclosed_sound : (s : Standing) (l : Locks) (log : List Entry) → is_closed s ≡ false → SoundLocks l → length log ≤ 16
-    → AllEntries log → SoundTransaction (record { standing = s; locks = l; log = log })
-unclosed_sound s l log o v h a = grind arith
+-- a transaction after its call was accepted
+abbrev called : Store → ℕ → Call → Transaction
+called d e c = record {
+  standing = «open»;
+  locks = hold (lock_of c) (transaction d e).locks;
+  log = noted (entry_of c (reply c d.state)) (transaction d e).log;
+}
 
 pub closed_sound : SoundTransaction closed_transaction
 unfolding closed_transaction no_locks
@@ -119,6 +92,20 @@ closed_sound = grind arith
 open_sound : SoundTransaction open_transaction
 unfolding open_transaction no_locks
 open_sound = grind arith
+
+aborted_sound : (t : Transaction) → SoundTransaction t → SoundTransaction (aborted t)
+aborted_sound t u = grind arith
+
+-- what is left after a rollback step
+unwound_sound : (t : Transaction) (n : Entry) (log : List Entry) → SoundTransaction t → t.log ≡ n ∷ log
+    → SoundTransaction (unwound log t.locks)
+unwound_sound t n log u q = grind (arith, closed_sound)
+
+-- and after a call
+called_sound : (d : Store) (e : ℕ) (c : Call) → SoundState d.state → SoundTransaction (transaction d e) → CallKey c
+    → CallAccepted d e c → SoundTransaction (called d e c)
+unfolding lock_of hold entry_of reply
+called_sound d e c w u k g = grind (arith, length_push, Once-append, all_append)
 
 sound_at : (ts : List Transaction) (i : ℕ) → AllSound ts → SoundTransaction (get_or ts i closed_transaction)
 sound_at [] i v = closed_sound
@@ -201,11 +188,9 @@ module _ (d : Store) (e : ℕ) (v : Sound d) (h : valid e ≡ true) where
 
   pub abort_sound : Sound (put d d.state e (aborted (transaction d e)))
   abort_sound =
-      let t = transaction d e in
-      let u = transaction-Sound d e v in
-      put-Sound d d.state e (aborted t) v h (state_of_lem d v)
-      (unclosed_sound aborting t.locks t.log refl (locks_of_lem t u) u.log_at_most u.log_in_range)
-      (as_before d e d.state t.log v (script-reserved d) (λ x m. m) (omega (arith, v.queue_slots)))
+      put-Sound d d.state e (aborted (transaction d e)) v h (state_of_lem d v)
+      (aborted_sound (transaction d e) (transaction-Sound d e v))
+      (as_before d e d.state (transaction d e).log v (script-reserved d) (λ x m. m) (omega (arith, v.queue_slots)))
 
 -- ---- a rollback step
 
@@ -228,12 +213,6 @@ undone_fits d e n log v q =
     (λ x m. grind arith)
     (grind (arith, v.queue_slots, length_delete_le, length_insert))
 
--- what is left after a rollback step is sound, and its log is the rest
-unwound_sound : (log : List Entry) (l : Locks) → SoundLocks l → length log ≤ 16 → AllEntries log
-    → SoundTransaction (unwound log l)
-unwound_sound [] l v h a = closed_sound
-unwound_sound (n ∷ log) l v h a = unclosed_sound aborting l (n ∷ log) refl v h a
-
 pub unwound-log : (log : List Entry) (l : Locks) → (unwound log l).log ≡ log
 unfolding closed_transaction
 unwound-log log l = grind arith
@@ -245,10 +224,8 @@ undo_sound d e (n ∷ log) v h q =
     let t = transaction d e in
     let u = transaction-Sound d e v in
     let a : AllEntries (n ∷ log) = rw q at u.log_in_range in
-    let m : length (n ∷ log) ≤ 16 = rw q at u.log_at_most in
     put-Sound d (inverse n d.state) e (unwound log t.locks) v h (inverse_sound n d.state a.0 (state_of_lem d v))
-    (unwound_sound log t.locks (locks_of_lem t u) (omega (arith, m)) a.1)
-    (rw (unwound-log log t.locks) (undone_fits d e n log v q))
+    (unwound_sound t n log u q) (rw (unwound-log log t.locks) (undone_fits d e n log v q))
 
 -- ---- a call
 
@@ -262,50 +239,25 @@ slots_at_most : (n : Option Entry) (slots : List ℕ) → script_full n slots �
 unfolding put_once_of
 slots_at_most n slots f h = grind (arith, length_insert)
 
-slots_kept : (n : Option Entry) (slots : List ℕ) (x : ℕ) → member_of x slots ≡ true
-    → member_of x (slots_with n slots) ≡ true
-slots_kept n slots x m = grind (arith, member_once)
-
--- an added cue has its slot by the new entry
-script_with : (c : Call) (s : State) (slots : List ℕ) (x : ℕ)
-    → ((y : ℕ) → member_of y s.script ≡ true → member_of y slots ≡ true)
-    → member_of x (effect c s).script ≡ true → member_of x (slots_with (entry_of c (reply c s)) slots) ≡ true
-unfolding effect entry_of reply
-script_with c s slots x f m = grind (arith, member_once, member_delete, f x)
-
--- a removed cue has its slot by the script before
-noted_with : (c : Call) (s : State) (log : List Entry) (slots : List ℕ) (x : ℕ)
-    → ((y : ℕ) → member_of y s.script ≡ true → member_of y slots ≡ true)
-    → ((y : ℕ) → named y log ≡ true → member_of y slots ≡ true) → named x (noted (entry_of c (reply c s)) log) ≡ true
-    → member_of x (slots_with (entry_of c (reply c s)) slots) ≡ true
-unfolding entry_of reply named
-noted_with c s log slots x f g m = grind (arith, member_once, f x, g x)
-
--- a push needs one queue slot more; a take gives the slot of its cue to its entry
-queue_with : (c : Call) (s : State) (log : List Entry) (others : ℕ)
-    → queue_full (entry_of c (reply c s)) (length s.queue + others) ≡ false → length s.queue + others ≤ 64
-    → length (effect c s).queue + takes_by (noted (entry_of c (reply c s)) log) + others ≤ 64 + takes_by log
-unfolding effect entry_of reply takes_by
-queue_with c s log others f h = grind (arith, length_insert)
+call_fits : (d : Store) (e : ℕ) (c : Call) → Sound d → CallAccepted d e c
+    → Fits d e (effect c d.state) (noted (entry_of c (reply c d.state)) (transaction d e).log)
+unfolding effect entry_of reply named takes_by
+call_fits d e c v g = record {
+  slots = slots_with (entry_of c (reply c d.state)) (reserved d);
+  at_most = slots_at_most (entry_of c (reply c d.state)) (reserved d) g.script v.script_slots;
+  kept = λ x m. grind (arith, member_once);
+  -- an added cue has its slot by the new entry
+  script = λ x m. grind (arith, member_once, member_delete, script-reserved d x);
+  -- a removed cue has its slot by the script before
+  names = λ x m. grind (arith, member_once, script-reserved d x, named-reserved d e x);
+  -- a push needs one queue slot more; a take gives the slot of its cue to its entry
+  queue = grind (arith, length_insert, g.queue, v.queue_slots);
+}
 
 pub call_sound : (d : Store) (e : ℕ) (c : Call) → Sound d → valid e ≡ true → CallKey c → CallAccepted d e c
     → Sound (accept d e c).store
 unfolding accept
 call_sound d e c v h k g =
-    let t = transaction d e in
-    let u = transaction-Sound d e v in
     let w = state_of_lem d v in
-    let n = entry_of c (reply c d.state) in
-    put-Sound d (effect c d.state) e _ v h (effect_sound c d.state k w)
-    (unclosed_sound «open» (hold (lock_of c) t.locks) (noted n t.log) refl
-    (lock_held c t.locks k g.locks (locks_of_lem t u))
-    (noted_at_most n t.log g.log u.log_at_most)
-    (noted_in_range n t.log (entry_key c d.state k w) u.log_in_range))
-    (record {
-      slots = slots_with n (reserved d);
-      at_most = slots_at_most n (reserved d) g.script v.script_slots;
-      kept = slots_kept n (reserved d);
-      script = λ x. script_with c d.state (reserved d) x (script-reserved d);
-      names = λ x. noted_with c d.state t.log (reserved d) x (script-reserved d) (named-reserved d e);
-      queue = queue_with c d.state t.log (takes_in d.transactions) g.queue v.queue_slots;
-    })
+    put-Sound d (effect c d.state) e (called d e c) v h (effect_sound c d.state k w)
+    (called_sound d e c w (transaction-Sound d e v) k g) (call_fits d e c v g)
