@@ -84,8 +84,7 @@ module _ (e : ℕ) (h : e < 10) where
       → member_of k ks ≡ true
   unfolding lock_lines member_of
   Among-locks k [] a b m = absurd m
-  Among-locks k (j ∷ ks) a b (inl q) = rw (eq-eqb j k (sym (same_cue k j a b.0 q))) refl
-  Among-locks k (j ∷ ks) a b (inr m) = or_right (eqb j k) (member_of k ks) (Among-locks k ks a b.1 m)
+  Among-locks k (j ∷ ks) a b m = grind (arith, same_cue k j a b.0, Among-locks k ks a b.1)
 
   locks_once : (ks : List ℕ) → Once ks → AllCues ks → EachOnce (lock_lines e ks)
   unfolding lock_lines
@@ -100,13 +99,7 @@ module _ (e : ℕ) (h : e < 10) where
   at_lock l (k ∷ ks) (inr m) = at_lock l ks m
 
   at_mode : (l : List ℕ) (x : Locks) → Among l (modes_of e x) → Byte 0 109 l × Byte 5 (48 + e) l
-  at_mode l x m = go (three_are x.pushes x.looks x.takes _ _ _ l m)
-    where
-      go : (l ≡ mode_line e (bytes "push\n")) ⊎ ((l ≡ mode_line e (bytes "look\n")) ⊎ (l ≡ mode_line e (bytes "take\n")))
-          → Byte 0 109 l × Byte 5 (48 + e) l
-      go (inl q) = rw q (refl, mode_number _)
-      go (inr (inl q)) = rw q (refl, mode_number _)
-      go (inr (inr q)) = rw q (refl, mode_number _)
+  at_mode l x m = grind (arith, three_are x.pushes x.looks x.takes _ _ _ l m, mode_number)
 
   differ : (u v : List ℕ) → (get_or u 0 0 ≡ get_or v 0 0 → ⊥) → mode_line e u ≡ mode_line e v → ⊥
   differ u v n q = n (cc (mode_word u, mode_word v))
