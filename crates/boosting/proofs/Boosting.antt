@@ -1,7 +1,7 @@
 -- Term 2: a call waits exactly when another unclosed transaction holds a conflicting lock, and an accepted call does
 -- what the plain operation does. Assumes nothing.
 use Prim.Native.Nat.{ℕ, zero, suc, ◌+◌, ◌-◌, ◌<◌, ◌≤◌}
-use mathlib.Core.Path.{◌≡◌, refl, ap, ◌∙◌}
+use mathlib.Core.Path.{◌≡◌, refl}
 use mathlib.Core.Bool.{Bool, true, false}
 use mathlib.Core.List.{List, [], ◌∷◌}
 use Rattle.std.specs.Prelude.{Option, None, Some, ◌↔◌}
@@ -10,16 +10,15 @@ use Rattle.std.proofs.lemmas.Grind.{get_or_head, get_or_tail}
 use native.Mathlib.Omega.{arith}
 use lib.ListN.{length, get_or}
 use Rattle.refusals.specs.declared.Refusal.TheVariants.{Blocked, LocksFull, UndoLogFull, ScriptFull, QueueFull}
-use Rattle.boosting.specs.Object.{Call, effect, reply}
-use Rattle.boosting.specs.Undo.{entry_of, noted}
-use Rattle.boosting.specs.Locks.{Lock, lock_of, hold, holds, conflicts}
+use Rattle.boosting.specs.Object.{Call}
+use Rattle.boosting.specs.Locks.{Lock, lock_of, conflicts}
 use Rattle.boosting.specs.Store.{«open», Transaction, closed_transaction, Store, valid, transaction, put, blocker}
 use Rattle.boosting.specs.Rows.{call, request, when, blocked_by, first_met, refusal_of}
 use Rattle.boosting.specs.Step.{accept, perform}
 use Rattle.boosting.specs.Sound.{Sound}
 use Rattle.boosting.specs.Theorems.{InTheWay, BlockedExactly, Done, AcceptedCallsDo}
 use Rattle.boosting.proofs.ObjectLaws.{no_locks_no_conflict, holds_new}
-use Rattle.boosting.proofs.StoreLaws.{range_valid, not_zero, put_same, put_other, put-state, no_conflict}
+use Rattle.boosting.proofs.StoreLaws.{range_valid, put_same, put_other, no_conflict}
 use Rattle.boosting.proofs.Accepted.{accepted_valid, step_accepted}
 use Rattle.boosting.proofs.Refusals.{refused_exactly}
 use Rattle.boosting.proofs.Keeping.{transaction-Sound}
@@ -73,7 +72,7 @@ in_the_way d e (suc j) k w h =
     }
   where
     below : (g : ℕ) → valid g ≡ true → g < suc j → (g ≡ e → ⊥) → conflicts k (transaction d g).locks ≡ false
-    below zero v h o = not_zero v
+    below zero v h o = cc
     below (suc g) v b o = (found e k 1 d.transactions (suc j) h).lowest g (omega arith) (λ q. o (omega arith))
 
 -- and back: nobody else is
@@ -95,24 +94,8 @@ blocked_exactly d e f c w v s =
 -- ---- an accepted call
 
 does : (d : Store) (e : ℕ) (c : Call) → length d.transactions ≡ 8 → valid e ≡ true → Done d e c (accept d e c)
-unfolding accept
-does d e c n v =
-    let t : Transaction = record {
-      standing = «open»;
-      locks = hold (lock_of c) (transaction d e).locks;
-      log = noted (entry_of c (reply c d.state)) (transaction d e).log;
-    } in
-    let new : transaction (put d (effect c d.state) e t) e ≡ t = put_same d (effect c d.state) e t n v in
-    record {
-      answer = refl;
-      state = put-state d (effect c d.state) e t;
-      standing = ap (λ (x : Transaction). x.standing) new;
-      locks = ap (λ (x : Transaction). x.locks) new;
-      held =
-          ap (λ (x : Transaction). holds (lock_of c) x.locks) new ∙ holds_new (lock_of c) (transaction d e).locks;
-      log = ap (λ (x : Transaction). x.log) new;
-      others = λ f o. put_other d (effect c d.state) e f t o;
-    }
+unfolding accept put
+does d e c n v = grind (arith, put_same, put_other, holds_new)
 
 pub accepted_calls_do : AcceptedCallsDo
 unfolding perform

@@ -4,7 +4,7 @@ use Prim.Native.Nat.{ℕ, zero, suc, ◌+◌, ◌≤◌}
 use mathlib.Core.Path.{◌≡◌, refl, ◌∙◌}
 use mathlib.Core.Bool.{Bool, true, false, cond, not, ◌&&◌, ◌||◌}
 use mathlib.Core.List.{List, [], ◌∷◌, ◌++◌}
-use Rattle.std.specs.Prelude.{Option, None, Some}
+use Rattle.std.specs.Prelude.{Option, Some}
 use native.Mathlib.Omega.{arith}
 use lib.ListN.{length, get_or, set, length-set}
 use Rattle.std.proofs.lemmas.Bool.{cases_Bool}
@@ -18,14 +18,12 @@ use Rattle.scripts.proofs.Theorems.{all_insert}
 use Rattle.boosting.specs.Object.{Call, State, effect, reply}
 use Rattle.boosting.specs.Undo.{Entry, added, entry_of, inverse, noted}
 use Rattle.boosting.specs.Locks.{Locks, no_locks, lock_of, hold}
-use Rattle.boosting.specs.Store.{Standing, «open», aborting, Transaction, closed_transaction, open_transaction, Store}
-use Rattle.boosting.specs.Store.{valid, transaction, put}
-use Rattle.boosting.specs.Room.{reserved, takes_by, takes_in, locks_full, log_full, script_full, queue_full}
-use Rattle.boosting.specs.Rows.{is_closed}
+use Rattle.boosting.specs.Store.{«open», Transaction, closed_transaction, open_transaction, Store, valid, transaction}
+use Rattle.boosting.specs.Store.{put}
+use Rattle.boosting.specs.Room.{reserved, takes_by, takes_in, script_full}
 use Rattle.boosting.specs.Step.{accept, unwound, undo_newest, aborted}
 use Rattle.boosting.specs.Sound.{Once, key_in, AllEntries, SoundTransaction, AllSound, Sound, CallKey}
 use Rattle.boosting.proofs.Sorted.{member_end}
-use Rattle.boosting.proofs.StoreLaws.{not_zero}
 use Rattle.boosting.proofs.Slots.{named, script-reserved, named-reserved, slots_put, takes_put}
 use Rattle.boosting.proofs.Accepted.{CallAccepted}
 
@@ -137,7 +135,7 @@ record Fits (d : Store) (e : ℕ) (s : State) (log : List Entry) : Type 0 where
 put-Sound : (d : Store) (s : State) (e : ℕ) (t : Transaction) → Sound d → valid e ≡ true → SoundState s
     → SoundTransaction t → Fits d e s t.log → Sound (put d s e t)
 unfolding put
-put-Sound d s zero t v h g u f = not_zero h
+put-Sound d s zero t v h g u f = cc
 put-Sound d s (suc i) t v h g u f = record {
   script_rising = g.script_rising;
   script_in_range = g.script_in_range;

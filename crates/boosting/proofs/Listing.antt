@@ -1,16 +1,13 @@
 -- The lock listing has each line once: the lines of two transactions differ in the number, byte 5, those of locks and
 -- modes in byte 0, those of two modes in byte 7, and those of two cue locks in their cues. Assumes nothing.
 use Prim.Native.Nat.{ℕ, suc, ◌+◌, ◌≤◌, ◌<◌}
-use mathlib.Core.Path.{◌≡◌, refl, sym, ap, ◌∙◌, subst}
-use mathlib.Core.Bool.{Bool, true, false}
+use mathlib.Core.Path.{◌≡◌, refl, sym, ap, ◌∙◌}
+use mathlib.Core.Bool.{Bool, true}
 use Rattle.std.specs.Prelude.{if◌then◌else◌}
 use mathlib.Core.List.{List, [], ◌∷◌, ◌++◌}
 use mathlib.Core.Logic.{◌⊎◌, inl, inr, ⊎_elim}
 use native.Mathlib.Omega.{arith}
-use lib.Dec.{eqb}
 use lib.ListN.{length, get_or, drop}
-use borrow.Author.Tests.{eq-eqb}
-use Rattle.lines.specs.Ascii.{bytes}
 use Rattle.digits.proofs.Laws.{digits_small}
 use Rattle.cues.specs.Cue.{CueKey, cue_of}
 use Rattle.cue_texts.specs.CueText.{cue_text}
@@ -20,10 +17,9 @@ use Rattle.scripts.specs.Theorems.{AllCues, SoundScript}
 use Rattle.scripts.proofs.Theorems.{text_one_to_one}
 use Rattle.boosting.specs.Locks.{Locks}
 use Rattle.boosting.specs.Store.{Transaction}
-use Rattle.boosting.specs.Listing.{lock_line, mode_line, lock_lines, mode_lines, modes_of, listing_of, listing_from}
+use Rattle.boosting.specs.Listing.{lock_line, mode_line, lock_lines, modes_of, listing_of, listing_from}
 use Rattle.boosting.specs.Sound.{Once, SoundTransaction, AllSound}
 use Rattle.boosting.specs.Theorems.{Among, EachOnce, ListingOnce}
-use Rattle.std.proofs.lemmas.Bool.{or_right}
 
 -- ---- lists of lines
 

@@ -11,12 +11,11 @@ use native.Mathlib.Omega.{arith}
 use Rattle.tables.specs.Table.{Ordered, member_of, put_once_of}
 use Rattle.tables.proofs.Laws.{From-weaken, member_delete_other, delete_absent, Apart-zero, insert_ordered}
 use Rattle.tables.proofs.Laws.{delete_ordered, once_ordered}
-use Rattle.boosting.specs.Object.{Call, add, remove, push, take, Reply, State, tail, effect, reply, answer_of}
+use Rattle.boosting.specs.Object.{Call, add, remove, push, take, State, tail, effect, reply}
 use Rattle.boosting.specs.Undo.{Entry, entry_of, inverse}
 use Rattle.boosting.specs.Locks.{Lock, cue_lock, push_mode, look_mode, take_mode, lock_of, Locks, no_locks, hold, holds}
 use Rattle.boosting.specs.Locks.{conflicts}
 use Rattle.boosting.specs.Store.{started}
-use Rattle.boosting.specs.Replay.{is_refused}
 use Rattle.boosting.proofs.Sorted.{insert_comm, delete_comm, insert_head, member_once_other, once_once, once_delete}
 use Rattle.boosting.proofs.Sorted.{delete_insert, member_delete_self, insert_delete, member_end}
 
@@ -58,11 +57,6 @@ effect-Good (push k) s g = record {
 effect-Good take s g = record { script = g.script; queue = tail_good s.queue g.queue }
 effect-Good _ s g = g
 
--- ---- no reply is a refusal
-
-pub reply_not_refused : (a : Reply) → is_refused (answer_of a) ≡ false
-reply_not_refused a = grind arith
-
 -- ---- a call without an entry changes nothing
 
 pub idle : (c : Call) (s : State) → Good s → entry_of c (reply c s) ≡ None → effect c s ≡ s
@@ -102,9 +96,6 @@ Apart take_mode push_mode = ⊥
 Apart take_mode look_mode = ⊥
 Apart take_mode take_mode = ⊥
 Apart _ _ = Unit {0}
-
-Apart-sym : (k j : Lock) → Apart k j → Apart j k
-Apart-sym k j n = grind arith
 
 apart : (k j : Lock) (l : Locks) → conflicts k l ≡ false → holds j l ≡ true → Apart k j
 unfolding conflicts holds

@@ -1,15 +1,14 @@
 -- The plain meaning of the sorted lists: a set, and a collection whose first cue is the least. Assumes nothing.
 use Prim.Native.Nat.{ℕ, suc, ◌+◌, ◌≤◌}
 use mathlib.Core.Path.{◌≡◌, refl}
-use mathlib.Core.Bool.{Bool, true, false, cond, not, ◌&&◌}
+use mathlib.Core.Bool.{true, cond, not, ◌&&◌}
 use mathlib.Core.List.{List, [], ◌∷◌}
 use native.Mathlib.Omega.{arith}
 use lib.Dec.{eqb}
 use Rattle.std.proofs.lemmas.Bool.{cases_eq}
-use borrow.Author.Tests.{eqb-true, eqb-false, eq-eqb, ne_eqb}
 use Rattle.tables.specs.Table.{Ordered, member_of, insert_of, delete_of}
-use Rattle.tables.proofs.Laws.{split, member_once, member_delete_other, member_from}
-use Rattle.boosting.specs.Object.{is_empty, is_cue, least, effect, reply}
+use Rattle.tables.proofs.Laws.{member_once, member_delete_other, member_from}
+use Rattle.boosting.specs.Object.{is_cue, least, effect, reply}
 use Rattle.boosting.specs.Theorems.{count_of, PlainMeaning, CallsArePlain}
 use Rattle.boosting.proofs.Sorted.{member_delete_self}
 

@@ -15,7 +15,6 @@ use Rattle.boosting.specs.Object.{State}
 use Rattle.boosting.specs.Undo.{Entry, added, removed, pushed, taken}
 use Rattle.boosting.specs.Store.{Transaction, closed_transaction, Store, valid, transaction, put}
 use Rattle.boosting.specs.Room.{reserved_by, reserved_in, reserved, takes_by, takes_in}
-use Rattle.boosting.proofs.StoreLaws.{not_zero, place_below}
 
 -- ---- the keys that logs name
 
@@ -104,5 +103,5 @@ pub takes_put : (d : Store) (s : State) (e : ℕ) (t : Transaction) → valid e 
     → takes_in (put d s e t).transactions + takes_by (transaction d e).log
     ≡ takes_in d.transactions + takes_by t.log
 unfolding put transaction
-takes_put d s zero t h l = not_zero h
-takes_put d s (suc i) t h l = takes_set d.transactions i t (omega (arith, l, place_below i h))
+takes_put d s zero t h l = cc
+takes_put d s (suc i) t h l = takes_set d.transactions i t (grind arith)
