@@ -13,7 +13,7 @@ use Rattle.boosting.specs.Locks.{lock_of}
 use Rattle.boosting.specs.Store.{Standing, closed, «open», aborting, Store, valid, transaction, blocker}
 use Rattle.boosting.specs.Room.{reserved, queue_slots, locks_full, log_full, script_full, queue_full}
 use Rattle.boosting.specs.Rows.{Action, begin, abort, roll_back, call, Request, request, first_met, refusal_of}
-use Rattle.boosting.specs.Step.{perform, refuse, step_on}
+use Rattle.boosting.specs.Step.{Out, perform, refuse, decided, step_on}
 
 abbrev pub Accepts : Store → ℕ → Action → Type 0
 Accepts d e a = refusal_of d (request e a) ≡ None
@@ -66,6 +66,17 @@ step_refused d (Some q) r h = rw h refl
 pub step_accepted : (d : Store) (e : ℕ) (a : Action) → Accepts d e a → step_on d (request e a) ≡ perform d e a
 unfolding step_on
 step_accepted d e a h = rw h refl
+
+-- a step is refused, or accepted and performed
+pub step_case : (d : Store) (e : ℕ) (a : Action) (P : Out → Type 0)
+    → ((r : Refusal) → refusal_of d (request e a) ≡ Some r → P (refuse d r)) → (Accepts d e a → P (perform d e a))
+    → P (step_on d (request e a))
+unfolding step_on
+step_case d e a P f g = go (refusal_of d (request e a)) refl
+  where
+    go : (o : Option Refusal) → refusal_of d (request e a) ≡ o → P (decided o d e a)
+    go (Some r) h = f r h
+    go None h = g h
 
 pub Accepts-abort : (d : Store) (e : ℕ) → valid e ≡ true → (transaction d e).standing ≡ «open» → Accepts d e abort
 unfolding refusal_of first_met

@@ -20,7 +20,7 @@ use Rattle.boosting.proofs.ObjectLaws.{Good}
 use Rattle.boosting.proofs.Trace.{Item}
 use Rattle.boosting.proofs.StoreLaws.{changed}
 use Rattle.boosting.proofs.Invariant.{Invariant}
-use Rattle.boosting.proofs.Accepted.{Accepts, asks, accepted_valid, step_refused, step_accepted, Accepts-abort}
+use Rattle.boosting.proofs.Accepted.{Accepts, asks, accepted_valid, step_case, Accepts-abort}
 use Rattle.boosting.proofs.Unwinding.{rolled_back, Closed, step_stays, further, further_at_most, closes}
 use Rattle.boosting.proofs.Stepping.{perform_keeps}
 
@@ -62,11 +62,8 @@ module _ (start : State) (g : Good start) (pending : ℕ → List Item) (settled
     -- a step that the replay does not see
     after_step : (a : Action) (d : Store) → Inv d → (asks a ≡ closed → ⊥) → (Accepts d e a → Inv (perform d e a).store)
         → Next d (step_on d (request e a)).store
-    after_step a d v n keeps = record { kept = go (refusal_of d (request e a)) refl; stay = step_stays d e a n }
-      where
-        go : (o : Option Refusal) → refusal_of d (request e a) ≡ o → Inv (step_on d (request e a)).store
-        go (Some r) h = rw (step_refused d (request e a) r h) v
-        go None h = rw (step_accepted d e a h) (keeps h)
+    after_step a d v n keeps =
+        record { kept = step_case d e a (λ o. Inv o.store) (λ r h. v) keeps; stay = step_stays d e a n }
 
     after_abort : (d : Store) → Inv d → Next d (aborted_at d e)
     after_abort d v =
@@ -81,17 +78,14 @@ module _ (start : State) (g : Good start) (pending : ℕ → List Item) (settled
     abort_not_open : (d : Store) → Inv d
         → Unopen (aborted_at d e) × ((transaction (aborted_at d e) e).log ≡ (transaction d e).log)
     unfolding perform
-    abort_not_open d v = go (refusal_of d (request e abort)) refl
-      where
-        go : (o : Option Refusal) → refusal_of d (request e abort) ≡ o
-            → Unopen (aborted_at d e) × ((transaction (aborted_at d e) e).log ≡ (transaction d e).log)
-        go (Some r) h =
-            rw (step_refused d (request e abort) r h, aborted_at)
-            ((λ s. cc (Accepts-abort d e (unclosed_valid d e v.eight (λ k. cc)) s)), refl)
-        go None h =
-            let x = aborted (transaction d e) in
-            let new = (changed d d.state e x v.eight (accepted_valid d e abort h)).new in
-            rw (step_accepted d e abort h, aborted_at, new) ((λ s. cc), refl)
+    abort_not_open d v =
+        step_case d e abort
+        (λ o. ((transaction o.store e).standing ≡ «open» → ⊥) × ((transaction o.store e).log ≡ (transaction d e).log))
+        (λ r h. ((λ s. cc (Accepts-abort d e (unclosed_valid d e v.eight (λ k. cc)) s)), refl))
+        (λ h.
+        let x = aborted (transaction d e) in
+        let c = changed d d.state e x v.eight (accepted_valid d e abort h) in
+        rw c.new ((λ s. cc), refl))
 
     -- ---- recovery of one transaction
 

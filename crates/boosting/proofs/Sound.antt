@@ -27,7 +27,7 @@ use Rattle.boosting.specs.Sound.{AllSound, Sound, ActionKey, RequestKey}
 use Rattle.boosting.specs.Theorems.{OpenedIsSound, SteppingKeepsSound, RunKeepsSound, RecoveryKeepsSound, SoundHasRoom}
 use Rattle.boosting.specs.Theorems.{AbortingUnwinds}
 use Rattle.boosting.proofs.Slots.{script-reserved}
-use Rattle.boosting.proofs.Accepted.{accepted_valid, accepted_call}
+use Rattle.boosting.proofs.Accepted.{accepted_valid, accepted_call, step_case}
 use Rattle.boosting.proofs.Unwinding.{further, Aborting, closes, stays}
 use Rattle.boosting.proofs.Keeping.{closed_sound, transaction-Sound, begin_sound, close_sound, abort_sound, undo_sound}
 use Rattle.boosting.proofs.Keeping.{call_sound}
@@ -83,11 +83,9 @@ perform-Sound d e (call (Some c)) v k h =
 pub request_keeps_sound : (d : Store) (q : Option Request) → Sound d → RequestKey q → Sound (step_on d q).store
 unfolding step_on
 request_keeps_sound d None v k = v
-request_keeps_sound d (Some q) v k = go (refusal_of d (Some q)) refl
-  where
-    go : (o : Option Refusal) → refusal_of d (Some q) ≡ o → Sound (decided o d q.transaction q.action).store
-    go (Some r) h = v
-    go None h = perform-Sound d q.transaction q.action v k h
+request_keeps_sound d (Some q) v k =
+    step_case d q.transaction q.action (λ o. Sound o.store) (λ r h. v)
+    (perform-Sound d q.transaction q.action v k)
 
 pub stepping_keeps_sound : SteppingKeepsSound
 unfolding step_line

@@ -10,6 +10,7 @@ use Rattle.std.specs.Prelude.{Option, None, Some}
 use native.Mathlib.Omega.{arith}
 use Rattle.std.proofs.lemmas.Bool.{agree_below_at}
 use Rattle.refusals.specs.declared.Refusal.{Refusal}
+use Rattle.refusals.specs.declared.Refusal.TheVariants.{Malformed as MalformedLine}
 use Rattle.steps.specs.Step.{step_of}
 use Rattle.answers.specs.declared.Answer.{Answer}
 use Rattle.tables.specs.Table.{member_of}
@@ -18,7 +19,7 @@ use Rattle.scripts.proofs.Theorems.{read_is_sound}
 use Rattle.boosting.specs.Object.{Call, State, effect, reply, answer_of}
 use Rattle.boosting.specs.Store.{Standing, closed, Store, started, opened, valid, transaction}
 use Rattle.boosting.specs.Rows.{Action, call, Request, request, request_of, refusal_of}
-use Rattle.boosting.specs.Step.{Out, accept, perform, step_on, step_line}
+use Rattle.boosting.specs.Step.{Out, accept, refuse, perform, step_on, step_line}
 use Rattle.boosting.specs.Run.{Event, Run, begun, advance, run_from, run}
 use Rattle.boosting.specs.Recovery.{recover, rising}
 use Rattle.boosting.specs.Replay.{replay, replies, seen, is_refused, since, calls_of, committed, feed, fed, answers_of}
@@ -28,7 +29,7 @@ use Rattle.boosting.proofs.Acceptance.{eight_closed}
 use Rattle.boosting.proofs.ObjectLaws.{Good, started-Good}
 use Rattle.boosting.proofs.Trace.{Item, play, Same, In}
 use Rattle.boosting.proofs.StoreLaws.{valid_range}
-use Rattle.boosting.proofs.Accepted.{malformed_refused, step_refused, step_accepted}
+use Rattle.boosting.proofs.Accepted.{step_case}
 use Rattle.boosting.proofs.Refusals.{perform_accepted}
 use Rattle.boosting.proofs.Invariant.{Invariant}
 use Rattle.boosting.proofs.Stepping.{item_of, perform_keeps}
@@ -101,23 +102,23 @@ answers_agree d f (call (Some c)) e xs = refl
 answers_agree d f _ e xs = refl
 
 module _ (start : State) (g : Good start) where
+  refusal_keeps : (r : Run) → Kept start r → (line : List ℕ) (n : Refusal) → Kept start (stepped r line (refuse r.store n))
+  refusal_keeps r k line n = record {
+    pending = k.pending;
+    settled = k.settled;
+    invariant = k.invariant;
+    account = Account-refused _ r.past k.pending k.settled k.account refl;
+  }
+
   outcome_keeps : (r : Run) → Kept start r → (line : List ℕ) (q : Option Request) → request_of (step_of line) ≡ q
-      → (o : Option Refusal) → refusal_of r.store q ≡ o → Kept start (stepped r line (step_on r.store q))
-  outcome_keeps r k line q w (Some n) h =
-      subst (λ (o : Out). Kept start (stepped r line o)) (sym (step_refused r.store q n h)) (record {
-        pending = k.pending;
-        settled = k.settled;
-        invariant = k.invariant;
-        account = Account-refused _ r.past k.pending k.settled k.account refl;
-      })
-  outcome_keeps r k line None w None h =
-      let z : ◌≡◌ {A = ℕ} 0 1 = cc (malformed_refused r.store) in
-      absurd (omega arith)
-  outcome_keeps r k line (Some q) w None h =
+      → Kept start (stepped r line (step_on r.store q))
+  unfolding step_on
+  outcome_keeps r k line None w = refusal_keeps r k line MalformedLine
+  outcome_keeps r k line (Some q) w =
       let d = r.store in
       let e = q.transaction in
       let a = q.action in
-      subst (λ (o : Out). Kept start (stepped r line o)) (sym (step_accepted d e a h)) (record {
+      step_case d e a (λ o. Kept start (stepped r line o)) (λ n h. refusal_keeps r k line n) (λ h. record {
         pending = λ f. since f (request e a) (item_of d e) (k.pending f);
         settled = committed (request e a) k.pending k.settled;
         invariant = perform_keeps start g d k.pending k.settled e k.invariant a h;
@@ -127,8 +128,7 @@ module _ (start : State) (g : Good start) where
 
   advance_keeps : (r : Run) → Kept start r → (line : List ℕ) → Kept start (advance r line)
   unfolding advance step_line
-  advance_keeps r k line =
-      outcome_keeps r k line (request_of (step_of line)) refl (refusal_of r.store (request_of (step_of line))) refl
+  advance_keeps r k line = outcome_keeps r k line (request_of (step_of line)) refl
 
   run_keeps : (lines : List (List ℕ)) (r : Run) → Kept start r → Kept start (run_from r lines)
   unfolding run_from

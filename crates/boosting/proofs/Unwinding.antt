@@ -16,7 +16,7 @@ use Rattle.boosting.specs.Rows.{Action, roll_back, request, refusal_of}
 use Rattle.boosting.specs.Step.{accept, unwound, undo_newest, perform, step_on}
 use Rattle.boosting.specs.Recovery.{roll_backs}
 use Rattle.boosting.proofs.StoreLaws.{put_other, Changed, changed}
-use Rattle.boosting.proofs.Accepted.{asks, accepted_standing, step_refused, step_accepted, Accepts-roll_back}
+use Rattle.boosting.proofs.Accepted.{asks, accepted_standing, step_case, step_accepted, Accepts-roll_back}
 
 abbrev pub rolled_back : Store → ℕ → Store
 rolled_back d e = (step_on d (request e roll_back)).store
@@ -34,13 +34,9 @@ perform_other d e f a n = grind (arith, put_other)
 -- a step that asks for an unclosed transaction leaves closed ones closed
 pub step_stays : (d : Store) (e : ℕ) (a : Action) → (asks a ≡ closed → ⊥) → (f : ℕ) → Closed d f
     → Closed (step_on d (request e a)).store f
-step_stays d e a n f s = go (refusal_of d (request e a)) refl
-  where
-    go : (o : Option Refusal) → refusal_of d (request e a) ≡ o → Closed (step_on d (request e a)).store f
-    go (Some r) h = rw (step_refused d (request e a) r h) s
-    go None h =
-        let m : f ≡ e → ⊥ = λ q. n (cc (accepted_standing d e a h)) in
-        rw (step_accepted d e a h, perform_other d e f a m) s
+step_stays d e a n f s =
+    step_case d e a (λ o. Closed o.store f) (λ r h. s)
+    (λ h. rw (perform_other d e f a (λ q. n (cc (accepted_standing d e a h)))) s)
 
 rolls_stay : (n : ℕ) (d : Store) (e : ℕ) → Closed d e → Closed (roll_backs n d e) e
 unfolding roll_backs
@@ -63,15 +59,6 @@ abbrev left : List Entry → Locks → Transaction
 left [] l = closed_transaction
 left (n ∷ log) l = unwound log l
 
--- it closes if there is no further step; or else it is aborting with one step fewer to take
-closed-left : (log : List Entry) (l : Locks) → further log ≡ 0 → (left log l).standing ≡ closed
-unfolding closed_transaction
-closed-left log l h = grind arith
-
-aborting-left : (log : List Entry) (l : Locks) (m : ℕ) → further log ≡ suc m
-    → ((left log l).standing ≡ aborting) × (further (left log l).log ≡ m)
-aborting-left log l m h = grind arith
-
 -- an aborting transaction that takes so many steps after the first
 pub record Aborting (d : Store) (e m : ℕ) : Type 0 where
   pub eight : length d.transactions ≡ 8
@@ -91,27 +78,26 @@ module _ (e : ℕ) (h : valid e ≡ true) where
       go [] = changed d d.state e closed_transaction a.eight h
       go (n ∷ log) = changed d (inverse n d.state) e (unwound log (transaction d e).locks) a.eight h
 
+  -- it closes if there is no further step; or else it is aborting with one step fewer to take
   one_fewer : (d : Store) (m : ℕ) → Aborting d e (suc m) → Aborting (rolled_back d e) e m
   one_fewer d m a =
       let r = rolled_back_lem d (suc m) a in
-      let n = aborting-left (transaction d e).log (transaction d e).locks m a.steps in
-      record {
-        eight = r.eight;
-        standing = ap (λ (t : Transaction). t.standing) r.new ∙ n.0;
-        steps = ap (λ (t : Transaction). further t.log) r.new ∙ n.1;
-      }
+      grind arith
+
+  last : (d : Store) → Aborting d e 0 → Closed (rolled_back d e) e
+  unfolding closed_transaction
+  last d a =
+      let r = rolled_back_lem d 0 a in
+      grind arith
 
   pub closes : (n m : ℕ) (d : Store) → m ≤ n → Aborting d e m → Closed (roll_backs (suc n) d e) e
   unfolding roll_backs
-  closes n zero d b a =
-      rolls_stay n (rolled_back d e) e
-      (ap (λ (t : Transaction). t.standing) (rolled_back_lem d zero a).new
-      ∙ closed-left (transaction d e).log (transaction d e).locks a.steps)
-  closes zero (suc m) d b a = absurd (not-suc-le-zero b)
-  closes (suc n) (suc m) d b a = closes n m (rolled_back d e) (le_of_suc-le-suc b) (one_fewer d m a)
+  closes n zero d b a = rolls_stay n (rolled_back d e) e (last d a)
+  closes zero (suc m) d b a = absurd (omega arith)
+  closes (suc n) (suc m) d b a = closes n m (rolled_back d e) (omega arith) (one_fewer d m a)
 
   pub stays : (n m : ℕ) (d : Store) → n < suc m → Aborting d e m → (transaction (roll_backs n d e) e).standing ≡ aborting
   unfolding roll_backs
   stays zero m d b a = a.standing
-  stays (suc n) zero d b a = absurd (not-suc-le-zero (le_of_suc-le-suc b))
-  stays (suc n) (suc m) d b a = stays n m (rolled_back d e) (le_of_suc-le-suc b) (one_fewer d m a)
+  stays (suc n) zero d b a = absurd (omega arith)
+  stays (suc n) (suc m) d b a = stays n m (rolled_back d e) (omega arith) (one_fewer d m a)
