@@ -28,7 +28,7 @@ use Rattle.boosting.specs.Theorems.{OpenedIsSound, SteppingKeepsSound, RunKeepsS
 use Rattle.boosting.specs.Theorems.{AbortingUnwinds}
 use Rattle.boosting.proofs.Slots.{script-reserved}
 use Rattle.boosting.proofs.Accepted.{accepted_valid, accepted_call, step_case}
-use Rattle.boosting.proofs.Unwinding.{further, Aborting, closes, stays}
+use Rattle.boosting.proofs.Unwinding.{recovery_keeps, further, Aborting, closes, stays}
 use Rattle.boosting.proofs.Keeping.{closed_sound, transaction-Sound, begin_sound, close_sound, abort_sound, undo_sound}
 use Rattle.boosting.proofs.Keeping.{call_sound}
 
@@ -103,19 +103,10 @@ run_keeps_sound d lines v = from_keeps_sound lines _ v
 
 -- ---- recovery
 
-pub rolled_back_sound : (n : ℕ) (d : Store) (e : ℕ) → Sound d → Sound (roll_backs n d e)
-unfolding roll_backs
-rolled_back_sound zero d e v = v
-rolled_back_sound (suc n) d e v =
-    rolled_back_sound n (step_on d (request e roll_back)).store e (request_keeps_sound d (request e roll_back) v tt)
-
 pub recovery_keeps_sound : RecoveryKeepsSound
-unfolding recover recover_one
-recovery_keeps_sound d [] v = v
-recovery_keeps_sound d (e ∷ order) v =
-    recovery_keeps_sound (recover_one d e) order
-    (rolled_back_sound (suc (length (transaction d e).log)) (step_on d (request e abort)).store e
-    (request_keeps_sound d (request e abort) v tt))
+recovery_keeps_sound d order v =
+    recovery_keeps Sound (λ d e v. request_keeps_sound d (request e roll_back) v tt)
+    (λ d e v. request_keeps_sound d (request e abort) v tt) order d v
 
 -- ---- room
 

@@ -33,7 +33,8 @@ use Rattle.boosting.proofs.Accepted.{step_case}
 use Rattle.boosting.proofs.Refusals.{perform_accepted}
 use Rattle.boosting.proofs.Invariant.{Invariant}
 use Rattle.boosting.proofs.Stepping.{item_of, perform_keeps}
-use Rattle.boosting.proofs.Recovering.{unclosed_valid, after_recovery, recovery_closes}
+use Rattle.boosting.proofs.Unwinding.{recovery_stays}
+use Rattle.boosting.proofs.Recovering.{unclosed_valid, recovery_kept, recovery_closes}
 
 -- ---- the history, counted in items
 
@@ -173,13 +174,13 @@ module _ (start : State) (g : Good start) (d : Store) (pending : ℕ → List It
   recovered_closed e = go (transaction d e).standing refl
     where
       go : (s : Standing) → (transaction d e).standing ≡ s → (transaction (recover d order) e).standing ≡ closed
-      go closed q = (after_recovery start g pending settled order d v).stay e q
+      go closed q = recovery_stays e order d q
       go _ q = recovery_closes start g pending settled order d v e (covers e (λ s. cc))
 
   recovered-state : (recover d order).state ≡ play start settled
   unfolding play
   recovered-state =
-      let w = (after_recovery start g pending settled order d v).kept in
+      let w = recovery_kept start g pending settled order d v in
       let t : w.trace ≡ [] = no_items w.trace (λ i p. w.unclosed i p (recovered_closed i.of)) in
       cc (t, w.state)
 

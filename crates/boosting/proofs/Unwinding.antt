@@ -12,9 +12,9 @@ use Rattle.refusals.specs.declared.Refusal.{Refusal}
 use Rattle.boosting.specs.Undo.{Entry, inverse}
 use Rattle.boosting.specs.Locks.{Locks}
 use Rattle.boosting.specs.Store.{closed, aborting, Transaction, closed_transaction, Store, valid, transaction}
-use Rattle.boosting.specs.Rows.{Action, roll_back, request, refusal_of}
+use Rattle.boosting.specs.Rows.{Action, abort, roll_back, request, refusal_of}
 use Rattle.boosting.specs.Step.{accept, unwound, undo_newest, perform, step_on}
-use Rattle.boosting.specs.Recovery.{roll_backs}
+use Rattle.boosting.specs.Recovery.{roll_backs, recover_one, recover}
 use Rattle.boosting.proofs.StoreLaws.{put_other, Changed, changed}
 use Rattle.boosting.proofs.Accepted.{asks, accepted_standing, step_case, step_accepted, Accepts-roll_back}
 
@@ -38,11 +38,34 @@ step_stays d e a n f s =
     step_case d e a (λ o. Closed o.store f) (λ r h. s)
     (λ h. rw (perform_other d e f a (λ q. n (cc (accepted_standing d e a h)))) s)
 
-rolls_stay : (n : ℕ) (d : Store) (e : ℕ) → Closed d e → Closed (roll_backs n d e) e
-unfolding roll_backs
-rolls_stay zero d e s = s
-rolls_stay (suc n) d e s =
-    rolls_stay n (rolled_back d e) e (step_stays d e roll_back (λ k. cc) e s)
+-- ---- what aborts and rollback steps keep, recovery keeps
+
+abbrev pub aborted_at : Store → ℕ → Store
+aborted_at d e = (step_on d (request e abort)).store
+
+module _ (P : Store → Type 0) (rolls : (d : Store) (e : ℕ) → P d → P (rolled_back d e)) where
+  pub rolls_keep : (n : ℕ) (d : Store) (e : ℕ) → P d → P (roll_backs n d e)
+  unfolding roll_backs
+  rolls_keep zero d e p = p
+  rolls_keep (suc n) d e p = rolls_keep n (rolled_back d e) e (rolls d e p)
+
+  module _ (aborts : (d : Store) (e : ℕ) → P d → P (aborted_at d e)) where
+    pub one_keeps : (d : Store) (e : ℕ) → P d → P (recover_one d e)
+    unfolding recover_one
+    one_keeps d e p = rolls_keep (suc (length (transaction d e).log)) (aborted_at d e) e (aborts d e p)
+
+    pub recovery_keeps : (order : List ℕ) (d : Store) → P d → P (recover d order)
+    unfolding recover
+    recovery_keeps [] d p = p
+    recovery_keeps (e ∷ es) d p = recovery_keeps es (recover_one d e) (one_keeps d e p)
+
+pub rolls_stay : (f n : ℕ) (d : Store) (e : ℕ) → Closed d f → Closed (roll_backs n d e) f
+rolls_stay f = rolls_keep (λ d. Closed d f) (λ d e. step_stays d e roll_back (λ k. cc) f)
+
+pub recovery_stays : (f : ℕ) (order : List ℕ) (d : Store) → Closed d f → Closed (recover d order) f
+recovery_stays f =
+    recovery_keeps (λ d. Closed d f) (λ d e. step_stays d e roll_back (λ k. cc) f)
+    (λ d e. step_stays d e abort (λ k. cc) f)
 
 -- ---- one rollback step
 
@@ -92,7 +115,7 @@ module _ (e : ℕ) (h : valid e ≡ true) where
 
   pub closes : (n m : ℕ) (d : Store) → m ≤ n → Aborting d e m → Closed (roll_backs (suc n) d e) e
   unfolding roll_backs
-  closes n zero d b a = rolls_stay n (rolled_back d e) e (last d a)
+  closes n zero d b a = rolls_stay e n (rolled_back d e) e (last d a)
   closes zero (suc m) d b a = absurd (omega arith)
   closes (suc n) (suc m) d b a = closes n m (rolled_back d e) (omega arith) (one_fewer d m a)
 
