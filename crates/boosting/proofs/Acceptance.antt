@@ -14,7 +14,7 @@ use Rattle.cue_lines.specs.CueLine.{fields_of}
 use Rattle.tables.specs.Table.{member_of, insert_of, delete_of, put_once_of}
 use Rattle.step_words.specs.Word.{word_of}
 use Rattle.answers.specs.declared.Answer.{Answer}
-use Rattle.answers.specs.declared.Answer.TheVariants.{Ok, Yes, No, Empty, Cue, Left, Refused}
+use Rattle.answers.specs.declared.Answer.TheVariants.{Ok}
 use Rattle.std.specs.Result.{IsOk}
 use Rattle.scripts.specs.Script.{read_from, script_of, script_or_empty}
 use Rattle.boosting.specs.Object.{State, effect, reply}
@@ -78,21 +78,11 @@ state_at s P h =
 
 abbrev AtAnswer : Answer → (Answer → Type 0) → Type 0
 AtAnswer Ok P = P Ok
-AtAnswer Yes P = P Yes
-AtAnswer No P = P No
-AtAnswer Empty P = P Empty
-AtAnswer (Cue c) P = P (Cue c)
-AtAnswer (Left n) P = P (Left n)
-AtAnswer (Refused r) P = P (Refused r)
+AtAnswer a P = P a
 
 answer_at_lem : (a : Answer) (P : Answer → Type 0) → AtAnswer a P → P a
 answer_at_lem Ok P h = h
-answer_at_lem Yes P h = h
-answer_at_lem No P h = h
-answer_at_lem Empty P h = h
-answer_at_lem (Cue c) P h = h
-answer_at_lem (Left n) P h = h
-answer_at_lem (Refused r) P h = h
+answer_at_lem a P h = h
 
 abbrev AtAnswers : List Answer → (List Answer → Type 0) → Type 0
 AtAnswers [] P = P []

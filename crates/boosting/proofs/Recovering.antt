@@ -4,24 +4,23 @@ use Prim.Native.Nat.{ℕ, zero, suc, ◌≤◌}
 use mathlib.Core.Path.{◌≡◌, refl}
 use mathlib.Core.Bool.{true, false}
 use mathlib.Core.List.{List, [], ◌∷◌}
-use Rattle.std.specs.Prelude.{Option, None, Some}
 use native.Mathlib.Omega.{arith}
 use lib.ListN.{length}
 use Rattle.std.proofs.lemmas.Bool.{true_from_ne_false}
 use Rattle.std.proofs.lemmas.List.{get_or_past}
-use Rattle.refusals.specs.declared.Refusal.{Refusal}
 use Rattle.tables.specs.Table.{member_of}
 use Rattle.boosting.specs.Object.{State}
 use Rattle.boosting.specs.Store.{Standing, closed, «open», aborting, closed_transaction, Store, valid, transaction}
-use Rattle.boosting.specs.Rows.{Action, abort, roll_back, request, refusal_of}
-use Rattle.boosting.specs.Step.{aborted, perform, step_on}
+use Rattle.boosting.specs.Rows.{abort, roll_back}
+use Rattle.boosting.specs.Step.{aborted, perform}
 use Rattle.boosting.specs.Recovery.{roll_backs, recover_one, recover}
 use Rattle.boosting.proofs.ObjectLaws.{Good}
 use Rattle.boosting.proofs.Trace.{Item}
 use Rattle.boosting.proofs.StoreLaws.{changed}
 use Rattle.boosting.proofs.Invariant.{Invariant}
-use Rattle.boosting.proofs.Accepted.{Accepts, asks, accepted_valid, step_case, Accepts-abort}
-use Rattle.boosting.proofs.Unwinding.{rolled_back, aborted_at, Closed, one_keeps, recovery_keeps, rolls_stay, recovery_stays, further, further_at_most, closes}
+use Rattle.boosting.proofs.Accepted.{accepted_valid, step_case, Accepts-abort}
+use Rattle.boosting.proofs.Unwinding.{rolled_back, aborted_at, Closed, one_keeps, recovery_keeps, rolls_stay}
+use Rattle.boosting.proofs.Unwinding.{recovery_stays, further, further_at_most, closes}
 use Rattle.boosting.proofs.Stepping.{perform_keeps}
 
 -- ---- numbers out of range

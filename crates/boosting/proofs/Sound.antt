@@ -6,7 +6,6 @@ use mathlib.Core.List.{List, [], ◌∷◌}
 use Rattle.std.specs.Prelude.{Bool, true, false, if◌then◌else◌, Option, None, Some}
 use native.Mathlib.Omega.{arith}
 use lib.ListN.{length, replicate}
-use Rattle.refusals.specs.declared.Refusal.{Refusal}
 use Rattle.cues.specs.Cue.{in_range, key_of}
 use Rattle.cues.specs.declared.Cue.{Cue}
 use Rattle.cues.proofs.Theorems.{key_is_cue_key}
@@ -20,9 +19,8 @@ use Rattle.boosting.specs.Store.{closed_transaction, Store, started, opened, tra
 use Rattle.boosting.specs.Room.{reserved_by, reserved_in, reserved, takes_by, takes_in}
 use Rattle.boosting.specs.Rows.{Action, begin, commit, abort, roll_back, call, Request, request, cue_call, request_of}
 use Rattle.boosting.specs.Rows.{refusal_of}
-use Rattle.boosting.specs.Step.{perform, decided, step_on, step_line}
+use Rattle.boosting.specs.Step.{perform, step_on, step_line}
 use Rattle.boosting.specs.Run.{Run, advance, run_from}
-use Rattle.boosting.specs.Recovery.{roll_backs, recover_one, recover}
 use Rattle.boosting.specs.Sound.{AllSound, Sound, ActionKey, RequestKey}
 use Rattle.boosting.specs.Theorems.{OpenedIsSound, SteppingKeepsSound, RunKeepsSound, RecoveryKeepsSound, SoundHasRoom}
 use Rattle.boosting.specs.Theorems.{AbortingUnwinds}

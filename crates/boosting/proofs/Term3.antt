@@ -2,7 +2,7 @@
 -- of the invariant's settled items; after recovery no transaction is unclosed, so the trace is empty and the state
 -- is the replay's. Assumes nothing.
 use Prim.Native.Nat.{ℕ}
-use mathlib.Core.Path.{◌≡◌, refl, sym, ap, ◌∙◌, subst}
+use mathlib.Core.Path.{◌≡◌, refl, sym, ap, ◌∙◌}
 use mathlib.Core.Bool.{true, false}
 use mathlib.Core.List.{List, [], ◌∷◌, ◌++◌, map, map-append, reverse, reverse-cons}
 use mathlib.Core.Logic.{inl}
@@ -18,7 +18,7 @@ use Rattle.scripts.specs.Script.{script_of, script_or_empty}
 use Rattle.scripts.proofs.Theorems.{read_is_sound}
 use Rattle.boosting.specs.Object.{Call, State, effect, reply, answer_of}
 use Rattle.boosting.specs.Store.{Standing, closed, Store, started, opened, valid, transaction}
-use Rattle.boosting.specs.Rows.{Action, call, Request, request, request_of, refusal_of}
+use Rattle.boosting.specs.Rows.{Action, call, Request, request, request_of}
 use Rattle.boosting.specs.Step.{Out, accept, refuse, perform, step_on, step_line}
 use Rattle.boosting.specs.Run.{Event, Run, begun, advance, run_from, run}
 use Rattle.boosting.specs.Recovery.{recover, rising}

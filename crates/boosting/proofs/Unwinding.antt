@@ -1,18 +1,15 @@
 -- Rollback steps of one transaction: each closes it or takes one entry off its log, so that as many as it has entries,
 -- or one if it has none, close it, and no fewer; closed transactions stay closed. Assumes nothing.
 use Prim.Native.Nat.{ℕ, zero, suc, ◌≤◌, ◌<◌}
-use mathlib.Core.Path.{◌≡◌, refl, ap, ◌∙◌}
+use mathlib.Core.Path.{◌≡◌}
 use mathlib.Core.Bool.{true}
 use mathlib.Core.List.{List, [], ◌∷◌}
-use Rattle.std.specs.Prelude.{Option, None, Some}
-use native.Mathlib.Nat.{le_of_suc-le-suc, not-suc-le-zero}
 use native.Mathlib.Omega.{arith}
 use lib.ListN.{length}
-use Rattle.refusals.specs.declared.Refusal.{Refusal}
 use Rattle.boosting.specs.Undo.{Entry, inverse}
 use Rattle.boosting.specs.Locks.{Locks}
 use Rattle.boosting.specs.Store.{closed, aborting, Transaction, closed_transaction, Store, valid, transaction}
-use Rattle.boosting.specs.Rows.{Action, abort, roll_back, request, refusal_of}
+use Rattle.boosting.specs.Rows.{Action, abort, roll_back, request}
 use Rattle.boosting.specs.Step.{accept, unwound, undo_newest, perform, step_on}
 use Rattle.boosting.specs.Recovery.{roll_backs, recover_one, recover}
 use Rattle.boosting.proofs.StoreLaws.{put_other, Changed, changed}
