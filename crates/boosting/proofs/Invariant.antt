@@ -18,7 +18,7 @@ use Rattle.boosting.specs.Store.{closed, «open», Transaction, open_transaction
 use Rattle.boosting.proofs.ObjectLaws.{Good, Free, Free-sym, holds_new, holds_old, locks_sound}
 use Rattle.boosting.proofs.StoreLaws.{Changed, no_conflict}
 use Rattle.boosting.proofs.Trace.{Item, play, Same, In, mine, others, entries, Clear, play-Good, play-append}
-use Rattle.boosting.proofs.Trace.{Same-append, In-others, mine_none, none_of, split, mine-others, Cut}
+use Rattle.boosting.proofs.Trace.{Same-append, In-others, mine_none, none_of, split, mine-others, cut, undo_all}
 
 -- ---- the invariant
 
@@ -120,18 +120,19 @@ module _ (start : State) (g : Good start) (d : Store) (pending : ℕ → List It
         }
 
   -- an accepted abort or rollback step: e's newest calls q are taken back (perhaps none), p are left
-  module _ (q p : List Item) (c : Cut e base v.trace q p) (new_state : d'.state ≡ play base c.trace)
+  module _ (q p : List Item) (m : mine e v.trace ≡ q ++ p) (new_state : d'.state ≡ undo_all (entries q) d.state)
       (not_open : x.standing ≡ «open» → ⊥) (closed_none : x.standing ≡ closed → p ≡ [])
       (xlk : (x.standing ≡ closed → ⊥) → x.locks ≡ (transaction d e).locks)
       (xlog : (x.standing ≡ closed → ⊥) → x.log ≡ entries p) where
     pub cut_keeps : Invariant start d' pending settled
     cut_keeps =
+        let c = cut e base q p v.trace (play-Good start settled g) v.clear v.same m in
         let left : (i : Item) → In i c.trace → i.of ≡ e → x.standing ≡ closed → ⊥ =
         λ i w r s. mine_none e c.trace (cc (c.own, closed_none s)) i w r in
         record {
           eight = ch.eight;
           trace = c.trace;
-          state = new_state;
+          state = cc (v.state, c.state);
           told = v.told;
           same = c.same;
           clear = λ i j a b. v.clear i j (c.sub i a) (c.sub j b);

@@ -13,7 +13,7 @@ use Rattle.boosting.specs.Rows.{Action, begin, commit, abort, roll_back, call, r
 use Rattle.boosting.specs.Step.{accept, undo_newest, aborted, perform}
 use Rattle.boosting.specs.Replay.{since, committed}
 use Rattle.boosting.proofs.ObjectLaws.{Good}
-use Rattle.boosting.proofs.Trace.{Item, play, mine, entries, undo_all, play-Good, Cut, cut, newest}
+use Rattle.boosting.proofs.Trace.{Item, mine, entries, undo_all, newest}
 use Rattle.boosting.proofs.StoreLaws.{changed}
 use Rattle.boosting.proofs.Invariant.{Invariant, begin_keeps, call_keeps, commit_keeps, cut_keeps}
 use Rattle.boosting.proofs.Accepted.{Accepts, asks, accepted_valid, accepted_standing, no_call, accepted_call}
@@ -24,25 +24,16 @@ item_of d e c = record { of = e; call = c; reply = reply c d.state }
 
 module _ (start : State) (g : Good start) (d : Store) (pending : ℕ → List Item) (settled : List Item) (e : ℕ)
     (v : Invariant start d pending settled) where
-  abbrev base : State
-  base = play start settled
-
   abbrev Kept : Store → Type 0
   Kept d' = Invariant start d' pending settled
-
-  cut_at : (q p : List Item) → mine e v.trace ≡ q ++ p → Cut e base v.trace q p
-  cut_at q p m = cut e base q p v.trace (play-Good start settled g) v.clear v.same m
 
   module _ (ok : valid e ≡ true) where
     -- an abort takes nothing back
     abort_keeps : (transaction d e).standing ≡ «open» → Kept (put d d.state e (aborted (transaction d e)))
     unfolding entries undo_all put
     abort_keeps st =
-        let x = aborted (transaction d e) in
-        let c = cut_at [] (mine e v.trace) refl in
-        cut_keeps start g d pending settled e v (put d d.state e x) x (changed d d.state e x v.eight ok)
-        [] (mine e v.trace) c
-        (cc (v.state, c.state)) (λ k. cc) (λ k. cc) (λ k. refl) (λ k. v.logs e (λ s. cc))
+        cut_keeps start g d pending settled e v _ _ (changed d d.state e (aborted (transaction d e)) v.eight ok)
+        [] (mine e v.trace) refl refl (λ k. cc) (λ k. cc) (λ k. refl) (λ k. v.logs e (λ s. cc))
 
     -- a rollback step takes back the calls down to the newest entry, and all that are left when it closes
     module _ (st : (transaction d e).standing ≡ aborting) where
@@ -52,22 +43,18 @@ module _ (start : State) (g : Good start) (d : Store) (pending : ℕ → List It
       close : (s : State) → s ≡ undo_all (transaction d e).log d.state → Kept (put d s e closed_transaction)
       unfolding closed_transaction put
       close s w =
-          let x = closed_transaction in
-          let c = cut_at (mine e v.trace) [] (sym (append-nil (mine e v.trace))) in
-          cut_keeps start g d pending settled e v (put d s e x) x (changed d s e x v.eight ok) (mine e v.trace) [] c
-          (cc (v.state, c.state, log_is)) (λ k. cc) (λ k. refl) (λ k. absurd (k refl)) (λ k. absurd (k refl))
+          cut_keeps start g d pending settled e v _ _ (changed d s e closed_transaction v.eight ok)
+          (mine e v.trace) [] (sym (append-nil (mine e v.trace))) (cc (log_is)) (λ k. cc) (λ k. refl)
+          (λ k. absurd (k refl)) (λ k. absurd (k refl))
 
       undo_keeps : (l : List Entry) → (transaction d e).log ≡ l → Kept (undo_newest d e l).store
       unfolding undo_all put
       undo_keeps [] l = close d.state (cc)
       undo_keeps (n ∷ []) l = close (inverse n d.state) (cc)
       undo_keeps (n ∷ m ∷ ms) l =
-          let x : Transaction = record { standing = aborting; locks = (transaction d e).locks; log = m ∷ ms } in
-          let s = inverse n d.state in
           let t = newest (mine e v.trace) n (m ∷ ms) (cc (log_is)) in
-          let c = cut_at t.q t.p t.parts in
-          cut_keeps start g d pending settled e v (put d s e x) x (changed d s e x v.eight ok) t.q t.p c
-          (cc (v.state, c.state, t.top)) (λ k. cc) (λ k. cc) (λ k. refl) (λ k. sym t.under)
+          cut_keeps start g d pending settled e v _ _ (changed d (inverse n d.state) e _ v.eight ok) t.q t.p t.parts
+          (cc (t.top)) (λ k. cc) (λ k. cc) (λ k. refl) (λ k. sym t.under)
 
   -- an accepted action
   pub perform_keeps : (a : Action) → Accepts d e a
