@@ -8,9 +8,9 @@ use native.Mathlib.Omega.{arith}
 use Rattle.refusals.specs.declared.Refusal.{Refusal}
 use Rattle.refusals.specs.declared.Refusal.TheVariants.{Malformed as MalformedLine}
 use Rattle.boosting.specs.Object.{Call, reply}
-use Rattle.boosting.specs.Undo.{entry_of}
-use Rattle.boosting.specs.Locks.{lock_of}
-use Rattle.boosting.specs.Store.{Standing, closed, «open», aborting, Store, valid, transaction, blocker}
+use Rattle.boosting.specs.Undo.{entry_of, noted}
+use Rattle.boosting.specs.Locks.{lock_of, hold}
+use Rattle.boosting.specs.Store.{Transaction, Standing, closed, «open», aborting, Store, valid, transaction, blocker}
 use Rattle.boosting.specs.Room.{reserved, queue_slots, locks_full, log_full, script_full, queue_full}
 use Rattle.boosting.specs.Rows.{Action, begin, abort, roll_back, call, Request, request, first_met, refusal_of}
 use Rattle.boosting.specs.Step.{Out, perform, refuse, decided, step_on}
@@ -51,6 +51,14 @@ pub record CallAccepted (d : Store) (e : ℕ) (c : Call) : Type 0 where
 pub accepted_call : (d : Store) (e : ℕ) (c : Call) → Accepts d e (call (Some c)) → CallAccepted d e c
 unfolding refusal_of first_met
 accepted_call d e c h = grind arith
+
+-- what an accepted call leaves of its transaction
+abbrev pub called : Store → ℕ → Call → Transaction
+called d e c = record {
+  standing = «open»;
+  locks = hold (lock_of c) (transaction d e).locks;
+  log = noted (entry_of c (reply c d.state)) (transaction d e).log;
+}
 
 -- ---- what is refused, and what is accepted
 

@@ -18,14 +18,13 @@ use Rattle.scripts.proofs.Theorems.{all_insert}
 use Rattle.boosting.specs.Object.{Call, State, effect, reply}
 use Rattle.boosting.specs.Undo.{Entry, added, entry_of, inverse, noted}
 use Rattle.boosting.specs.Locks.{Locks, no_locks, lock_of, hold}
-use Rattle.boosting.specs.Store.{«open», Transaction, closed_transaction, open_transaction, Store, valid, transaction}
-use Rattle.boosting.specs.Store.{put}
+use Rattle.boosting.specs.Store.{Transaction, closed_transaction, open_transaction, Store, valid, transaction, put}
 use Rattle.boosting.specs.Room.{reserved, takes_by, takes_in, script_full}
 use Rattle.boosting.specs.Step.{accept, unwound, undo_newest, aborted}
 use Rattle.boosting.specs.Sound.{Once, key_in, AllEntries, SoundTransaction, AllSound, Sound, CallKey}
 use Rattle.boosting.proofs.Sorted.{member_end}
 use Rattle.boosting.proofs.Slots.{named, script-reserved, named-reserved, slots_put, takes_put}
-use Rattle.boosting.proofs.Accepted.{CallAccepted}
+use Rattle.boosting.proofs.Accepted.{CallAccepted, called}
 
 -- ---- keys in range
 
@@ -74,14 +73,6 @@ inverse_sound n s g v =
     grind (arith, once_ordered, delete_ordered, insert_rising, all_once, all_delete, all_insert, v)
 
 -- ---- transactions
-
--- a transaction after its call was accepted
-abbrev called : Store → ℕ → Call → Transaction
-called d e c = record {
-  standing = «open»;
-  locks = hold (lock_of c) (transaction d e).locks;
-  log = noted (entry_of c (reply c d.state)) (transaction d e).log;
-}
 
 pub closed_sound : SoundTransaction closed_transaction
 unfolding closed_transaction no_locks
