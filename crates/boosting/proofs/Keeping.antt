@@ -62,15 +62,15 @@ state_of_lem d v = grind arith
 insert_rising : (k : ℕ) (q : List ℕ) → Ordered 0 q → Ordered 0 (insert_of k q)
 insert_rising k q = insert_ordered 0 k q (omega arith) (Apart-zero k q)
 
+ruleset lists_sound = (once_ordered, delete_ordered, insert_rising, all_once, all_delete, all_insert)
+
 effect_sound : (c : Call) (s : State) → CallKey c → SoundState s → SoundState (effect c s)
 unfolding effect
-effect_sound c s g v =
-    grind (arith, once_ordered, delete_ordered, insert_rising, all_once, all_delete, all_insert, v)
+effect_sound c s g v = grind (arith, lists_sound, v)
 
 inverse_sound : (n : Entry) (s : State) → CueKey (key_in n) → SoundState s → SoundState (inverse n s)
 unfolding inverse
-inverse_sound n s g v =
-    grind (arith, once_ordered, delete_ordered, insert_rising, all_once, all_delete, all_insert, v)
+inverse_sound n s g v = grind (arith, lists_sound, v)
 
 -- ---- transactions
 

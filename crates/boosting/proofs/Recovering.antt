@@ -1,5 +1,5 @@
--- Recovery keeps the invariant with the same settled calls, leaves closed transactions closed, and closes each
--- transaction that it is told to recover: an abort leaves it not open, and rollback steps close it. Assumes nothing.
+-- Recovery keeps the invariant with the same settled calls, and closes each transaction that it is told to recover: an
+-- abort leaves it not open, and rollback steps close it. Assumes nothing.
 use Prim.Native.Nat.{ℕ, zero, suc, ◌≤◌}
 use mathlib.Core.Path.{◌≡◌, refl}
 use mathlib.Core.Bool.{true, false}

@@ -1,5 +1,5 @@
--- Laws of the store: which numbers are transactions, what putting one transaction anew changes, and the search for the
--- transaction in the way, branch by branch. Assumes nothing.
+-- Laws of the store: which numbers are transactions, what putting one transaction anew changes, and that no lock is in
+-- conflict where the search for the transaction in the way finds none. Assumes nothing.
 use Prim.Native.Nat.{ℕ, zero, suc, ◌+◌, ◌≤◌}
 use mathlib.Core.Path.{◌≡◌}
 use mathlib.Core.Bool.{true, false}

@@ -1,5 +1,6 @@
 -- Rollback steps of one transaction: each closes it or takes one entry off its log, so that as many as it has entries,
--- or one if it has none, close it, and no fewer; closed transactions stay closed. Assumes nothing.
+-- or one if it has none, close it, and no fewer. What aborts and rollback steps keep, recovery keeps: so closed
+-- transactions stay closed. Assumes nothing.
 use Prim.Native.Nat.{ℕ, zero, suc, ◌≤◌, ◌<◌}
 use mathlib.Core.Path.{◌≡◌}
 use mathlib.Core.Bool.{true}
