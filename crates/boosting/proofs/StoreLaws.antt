@@ -11,7 +11,8 @@ use lib.Seq.{get_or-set_same, get_or-set_other}
 use Rattle.std.proofs.lemmas.Grind.{get_or_head, get_or_tail}
 use Rattle.boosting.specs.Object.{State}
 use Rattle.boosting.specs.Locks.{Lock, conflicts}
-use Rattle.boosting.specs.Store.{Transaction, closed_transaction, Store, valid, transaction, put, blocker}
+use Rattle.boosting.specs.Store.{Standing, closed, «open», Transaction, closed_transaction, Store, valid, transaction}
+use Rattle.boosting.specs.Store.{put, blocker}
 use Rattle.boosting.proofs.ObjectLaws.{no_locks_no_conflict}
 
 -- ---- numbers
@@ -21,6 +22,9 @@ valid_range e h = grind arith
 
 pub range_valid : (e : ℕ) → 1 ≤ e → e ≤ 8 → valid e ≡ true
 range_valid e h k = grind arith
+
+pub open_unclosed : (s : Standing) → s ≡ «open» → s ≡ closed → ⊥
+open_unclosed s p q = cc
 
 -- ---- one state and one transaction put
 
