@@ -129,7 +129,8 @@ eight_closed d h zero = refl
 eight_closed d h (suc i) = ap (λ (ts : List Transaction). (get_or ts i closed_transaction).standing) h ∙ closed_at 8 i
 
 term_3_at : (c : Case) → IsOk (script_of c.start)
-    → EqualAnswers (heard (stepped c).past) (replies (started (script_or_empty (script_of c.start))) (fed (stepped c).past))
+    → EqualAnswers (heard (stepped c).past)
+    (replies (started (script_or_empty (script_of c.start))) (fed (stepped c).past))
     → EqualStates (recover (stepped c).store rising).state
     (replay (started (script_or_empty (script_of c.start))) (fed (stepped c).past))
     → (recover (stepped c).store rising).transactions ≡ replicate 8 closed_transaction

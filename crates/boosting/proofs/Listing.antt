@@ -114,8 +114,8 @@ module _ (e : ℕ) (h : e < 10) where
   listing_of_once t v =
       let x = t.locks in
       once_both (lock_lines e x.cues) (modes_of e x)
-      (λ l a b. omega (arith, (at_lock l x.cues a).0, (at_mode l x b).0)) (locks_once x.cues v.locks_once v.locks_in_range)
-      (modes_once x)
+      (λ l a b. omega (arith, (at_lock l x.cues a).0, (at_mode l x b).0))
+      (locks_once x.cues v.locks_once v.locks_in_range) (modes_once x)
 
 -- ---- all transactions
 

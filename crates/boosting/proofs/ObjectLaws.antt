@@ -103,7 +103,8 @@ apart k j l f t = grind arith
 
 commute : (c d : Call) → Apart (lock_of c) (lock_of d) → Free c d
 unfolding effect lock_of reply
-commute c d n s g = grind (arith, once_once, once_delete, delete_comm, insert_comm, member_once_other, member_delete_other, g)
+commute c d n s g =
+    grind (arith, once_once, once_delete, delete_comm, insert_comm, member_once_other, member_delete_other, g)
 
 -- the law of the locks: a call in conflict with none of the locks held changes places with each call whose lock is held
 pub locks_sound : (c d : Call) (l : Locks) → conflicts (lock_of c) l ≡ false → holds (lock_of d) l ≡ true → Free c d

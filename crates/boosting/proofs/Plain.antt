@@ -50,7 +50,8 @@ plain_meaning = record {
 -- ---- the calls
 
 -- what `min` and `take` find stands in the queue, and nothing below it
-least_found : (j k : ℕ) (q : List ℕ) → Ordered 0 q → least q ≡ is_cue k → (member_of k q ≡ true) × (member_of j q ≡ true → k ≤ j)
+least_found : (j k : ℕ) (q : List ℕ) → Ordered 0 q → least q ≡ is_cue k
+    → (member_of k q ≡ true) × (member_of j q ≡ true → k ≤ j)
 unfolding member_of
 least_found j k [] o e = cc
 least_found j k (x ∷ q) o e = grind (arith, member_from (x + 0) j q o.0)

@@ -103,7 +103,8 @@ answers_agree d f (call (Some c)) e xs = refl
 answers_agree d f _ e xs = refl
 
 module _ (start : State) (g : Good start) where
-  refusal_keeps : (r : Run) → Kept start r → (line : List ℕ) (n : Refusal) → Kept start (stepped r line (refuse r.store n))
+  refusal_keeps : (r : Run) → Kept start r → (line : List ℕ) (n : Refusal)
+      → Kept start (stepped r line (refuse r.store n))
   refusal_keeps r k line n = record {
     pending = k.pending;
     settled = k.settled;
@@ -200,17 +201,20 @@ replies_end s (b ∷ cs) c = ap (λ (l : List Answer). answer_of (reply b s) ∷
 play-replay : (s : State) (t : List Item) → play s t ≡ replay s (reverse (map call_in t))
 unfolding replay play
 play-replay s [] = refl
-play-replay s (i ∷ t) = cc (play-replay s t, replay_end s (reverse (map call_in t)) i.call, reverse-cons i.call (map call_in t))
+play-replay s (i ∷ t) =
+    let cs = map call_in t in
+    cc (play-replay s t, replay_end s (reverse cs) i.call, reverse-cons i.call cs)
 
 Same-replies : (s : State) (t : List Item) → Same s t → reverse (map answer_in t) ≡ replies s (reverse (map call_in t))
 unfolding replies
 Same-replies s [] q = refl
 Same-replies s (i ∷ t) q =
+    let cs = map call_in t in
     cc (
       Same-replies s t q.1,
       play-replay s t,
-      replies_end s (reverse (map call_in t)) i.call,
-      reverse-cons i.call (map call_in t),
+      replies_end s (reverse cs) i.call,
+      reverse-cons i.call cs,
       reverse-cons (answer_in i) (map answer_in t),
     )
 

@@ -185,7 +185,8 @@ taken : (e : ℕ) (s : State) (t : List Item) (x : Item) (p : List Item) → Goo
 unfolding mine less play
 taken e s [] x p g k q m = cc
 taken e s (i ∷ t) x p g k q m =
-    let r : (i.of ≡ e → ⊥) → Taken e s t x p = λ h. taken e s t x p g (Clear-tail i t k) q.1 (rw (ne_eqb i.of e h) at m) in
+    let r : (i.of ≡ e → ⊥) → Taken e s t x p = λ h.
+    taken e s t x p g (Clear-tail i t k) q.1 (rw (ne_eqb i.of e h) at m) in
     let f : (i.of ≡ e → ⊥) → Commute i.call x.call (play s (less e t)) = λ h.
     k i x (inl refl) (inr (r h).item) (λ z. h (cc (r h).of)) (play s (less e t)) (play-Good s (less e t) g) in
     grind (arith, r, f)

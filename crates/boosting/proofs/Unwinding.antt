@@ -117,7 +117,8 @@ module _ (e : ℕ) (h : valid e ≡ true) where
   closes zero (suc m) d b a = absurd (omega arith)
   closes (suc n) (suc m) d b a = closes n m (rolled_back d e) (omega arith) (one_fewer d m a)
 
-  pub stays : (n m : ℕ) (d : Store) → n < suc m → Aborting d e m → (transaction (roll_backs n d e) e).standing ≡ aborting
+  pub stays : (n m : ℕ) (d : Store) → n < suc m → Aborting d e m
+      → (transaction (roll_backs n d e) e).standing ≡ aborting
   unfolding roll_backs
   stays zero m d b a = a.standing
   stays (suc n) zero d b a = absurd (omega arith)

@@ -143,7 +143,7 @@ rows_of d e a =
     when (not (valid e)) TransactionOutOfRange  -- 2: edit number not 1 to 8
     ∷ when (is_begin a && not (is_closed s)) AlreadyBegun  -- 3: begin on an unclosed edit
     ∷ when (not (is_begin a) && is_closed s) NotBegun  -- 4: other step on a closed edit
-    ∷ when (not (is_begin a) && not (is_roll_back a) && is_aborting s) IsAborting  -- 5: call, commit, undo when unwinding
+    ∷ when (not (is_begin a) && not (is_roll_back a) && is_aborting s) IsAborting  -- 5: call, commit, undo if unwinding
     ∷ when (is_roll_back a && not (is_aborting s)) NotAborting  -- 6: back on an edit not unwinding
     ∷ when (not (cue_in_range a)) CueOutOfRange  -- 7: cue number out of range
     ∷ lock_rows d e a
