@@ -14,24 +14,14 @@ use Rattle.cue_lines.specs.CueLine.{fields_of}
 use Rattle.tables.specs.Table.{member_of, insert_of, delete_of, put_once_of}
 use Rattle.step_words.specs.Word.{word_of}
 use Rattle.answers.specs.declared.Answer.{Answer}
-use Rattle.answers.specs.declared.Answer.TheVariants.{Ok, Yes, No, Empty, Cue, Left, Refused}
+use Rattle.answers.specs.declared.Answer.TheVariants.{Ok}
 use Rattle.std.specs.Result.{IsOk}
 use Rattle.scripts.specs.Script.{read_from, script_of, script_or_empty}
 use Rattle.boosting.specs.Object.{State, effect, reply}
 use Rattle.boosting.specs.Undo.{entry_of, inverse}
 use Rattle.boosting.specs.Locks.{lock_of, no_locks, hold, conflicts}
-use Rattle.boosting.specs.Store.{
-  closed,
-  Transaction,
-  closed_transaction,
-  open_transaction,
-  Store,
-  started,
-  opened,
-  transaction,
-  put,
-  blocker,
-}
+use Rattle.boosting.specs.Store.{closed, Transaction, closed_transaction, open_transaction, Store, started, opened}
+use Rattle.boosting.specs.Store.{transaction, put, blocker}
 use Rattle.boosting.specs.Room.{reserved_by, reserved_in, reserved, takes_by, takes_in, queue_slots}
 use Rattle.boosting.specs.Rows.{first_met, refusal_of}
 use Rattle.boosting.specs.Step.{accept, perform, step_on, step_line}
@@ -41,32 +31,11 @@ use Rattle.boosting.specs.Replay.{replay, replies, calls_of, feed, fed, answers_
 use Rattle.boosting.specs.Listing.{lock_lines, listing_from, listing}
 use Rattle.boosting.specs.Sound.{Sound}
 use Rattle.boosting.specs.Theorems.{Term3Rising, OpenedIsSound, RunKeepsSound, EachOnce, ListingOnce}
-use Rattle.boosting.specs.Acceptance.{
-  Case,
-  stepped,
-  Term3At,
-  no_and_empty,
-  LockForNoAndEmpty,
-  half_undone,
-  LocksUntilTheLastBack,
-  full_script,
-  SlotUntilItsEditCloses,
-  add_then_remove,
-  UndoNewestFirst,
-  full_queue,
-  NoRefusedCallInTheReplay,
-  added_then_removed,
-  CommitsInOrder,
-  begun_again,
-  BeginIsANewEdit,
-  has_on25_cues,
-  CueLocks24,
-  pushes17,
-  UndoEntries16,
-  QueueSlots64,
-  AnswersAlone,
-  ModeListedOnce,
-}
+use Rattle.boosting.specs.Acceptance.{Case, stepped, Term3At, no_and_empty, LockForNoAndEmpty, half_undone}
+use Rattle.boosting.specs.Acceptance.{LocksUntilTheLastBack, full_script, SlotUntilItsEditCloses, add_then_remove}
+use Rattle.boosting.specs.Acceptance.{UndoNewestFirst, full_queue, NoRefusedCallInTheReplay, added_then_removed}
+use Rattle.boosting.specs.Acceptance.{CommitsInOrder, begun_again, BeginIsANewEdit, has_on25_cues, CueLocks24, pushes17}
+use Rattle.boosting.specs.Acceptance.{UndoEntries16, QueueSlots64, AnswersAlone, ModeListedOnce}
 
 -- ---- a test that fails refutes its theorem
 
@@ -109,21 +78,11 @@ state_at s P h =
 
 abbrev AtAnswer : Answer → (Answer → Type 0) → Type 0
 AtAnswer Ok P = P Ok
-AtAnswer Yes P = P Yes
-AtAnswer No P = P No
-AtAnswer Empty P = P Empty
-AtAnswer (Cue c) P = P (Cue c)
-AtAnswer (Left n) P = P (Left n)
-AtAnswer (Refused r) P = P (Refused r)
+AtAnswer a P = P a
 
 answer_at_lem : (a : Answer) (P : Answer → Type 0) → AtAnswer a P → P a
 answer_at_lem Ok P h = h
-answer_at_lem Yes P h = h
-answer_at_lem No P h = h
-answer_at_lem Empty P h = h
-answer_at_lem (Cue c) P h = h
-answer_at_lem (Left n) P h = h
-answer_at_lem (Refused r) P h = h
+answer_at_lem a P h = h
 
 abbrev AtAnswers : List Answer → (List Answer → Type 0) → Type 0
 AtAnswers [] P = P []
@@ -170,7 +129,8 @@ eight_closed d h zero = refl
 eight_closed d h (suc i) = ap (λ (ts : List Transaction). (get_or ts i closed_transaction).standing) h ∙ closed_at 8 i
 
 term_3_at : (c : Case) → IsOk (script_of c.start)
-    → EqualAnswers (heard (stepped c).past) (replies (started (script_or_empty (script_of c.start))) (fed (stepped c).past))
+    → EqualAnswers (heard (stepped c).past)
+    (replies (started (script_or_empty (script_of c.start))) (fed (stepped c).past))
     → EqualStates (recover (stepped c).store rising).state
     (replay (started (script_or_empty (script_of c.start))) (fed (stepped c).past))
     → (recover (stepped c).store rising).transactions ≡ replicate 8 closed_transaction

@@ -1,129 +1,64 @@
 -- What follows from a request being refused or not, and which requests of recovery are accepted: read off the rows,
 -- once. Assumes nothing.
 use Prim.Native.Nat.{ℕ}
-use mathlib.Core.Path.{◌≡◌, refl, sym, ap}
-use mathlib.Core.Bool.{Bool, true, false, not, ◌&&◌}
-use mathlib.Core.List.{List, [], ◌∷◌}
+use mathlib.Core.Path.{◌≡◌, refl, ap}
+use mathlib.Core.Bool.{true, false}
 use Rattle.std.specs.Prelude.{Option, None, Some}
 use native.Mathlib.Omega.{arith}
 use Rattle.refusals.specs.declared.Refusal.{Refusal}
 use Rattle.refusals.specs.declared.Refusal.TheVariants.{Malformed as MalformedLine}
 use Rattle.boosting.specs.Object.{Call, reply}
-use Rattle.boosting.specs.Undo.{entry_of}
-use Rattle.boosting.specs.Locks.{lock_of}
-use Rattle.boosting.specs.Store.{Standing, closed, «open», aborting, Store, valid, transaction, blocker}
+use Rattle.boosting.specs.Undo.{entry_of, noted}
+use Rattle.boosting.specs.Locks.{lock_of, hold}
+use Rattle.boosting.specs.Store.{Transaction, Standing, closed, «open», aborting, Store, valid, transaction, blocker}
 use Rattle.boosting.specs.Room.{reserved, queue_slots, locks_full, log_full, script_full, queue_full}
-use Rattle.boosting.specs.Rows.{
-  Action,
-  begin,
-  commit,
-  abort,
-  roll_back,
-  call,
-  Request,
-  request,
-  is_closed,
-  is_aborting,
-  is_begin,
-  is_roll_back,
-  when,
-  blocked_by,
-  rows_of,
-  first_met,
-  refusal_of,
-}
-use Rattle.boosting.specs.Step.{perform, refuse, step_on}
-
--- no row is met
-abbrev AllNone : List (Option Refusal) → Type 0
-AllNone [] = Unit {0}
-AllNone (row ∷ rows) = (row ≡ None) × AllNone rows
-
-all_none : (rows : List (Option Refusal)) → first_met rows ≡ None → AllNone rows
-unfolding first_met
-all_none [] h = tt
-all_none (None ∷ rows) h = (refl, all_none rows h)
-all_none (Some r ∷ rows) h = absurd (let z : ◌≡◌ {A = ℕ} 0 1 = cc in omega arith)
-
-when-none : (b : Bool) (r : Refusal) → when b r ≡ None → b ≡ false
-when-none true r h = cc
-when-none false r h = refl
-
-not-false : (b : Bool) → not b ≡ false → b ≡ true
-not-false true h = refl
-not-false false h = sym h
-
-free_none : (b : Option ℕ) → blocked_by b ≡ None → b ≡ None
-free_none None h = refl
-free_none (Some f) h = cc
-
--- ---- what acceptance tells
+use Rattle.boosting.specs.Rows.{Action, begin, abort, roll_back, call, Request, request, first_met, refusal_of}
+use Rattle.boosting.specs.Step.{Out, perform, refuse, decided, step_on}
 
 abbrev pub Accepts : Store → ℕ → Action → Type 0
 Accepts d e a = refusal_of d (request e a) ≡ None
 
-rows_of_lem : (d : Store) (e : ℕ) (a : Action) → Accepts d e a → AllNone (rows_of d e a)
-unfolding refusal_of
-rows_of_lem d e a h = all_none (rows_of d e a) h
+-- ---- what acceptance tells
 
 pub accepted_valid : (d : Store) (e : ℕ) (a : Action) → Accepts d e a → valid e ≡ true
-accepted_valid d e a h = not-false (valid e) (when-none (not (valid e)) _ (rows_of_lem d e a h).0)
+unfolding refusal_of first_met
+accepted_valid d e a h = grind arith
 
 -- the standing that an action asks for
 abbrev pub asks : Action → Standing
 asks begin = closed
-asks commit = «open»
-asks abort = «open»
 asks roll_back = aborting
-asks (call b c) = «open»
+asks _ = «open»
 
 -- rows 3 to 6 leave no other
-one_standing : (a : Action) (s : Standing) → (is_begin a && not (is_closed s)) ≡ false
-    → (not (is_begin a) && is_closed s) ≡ false → (not (is_begin a) && not (is_roll_back a) && is_aborting s) ≡ false
-    → (is_roll_back a && not (is_aborting s)) ≡ false → s ≡ asks a
-one_standing begin closed h i j k = refl
-one_standing begin «open» h i j k = cc
-one_standing begin aborting h i j k = cc
-one_standing commit closed h i j k = cc
-one_standing commit «open» h i j k = refl
-one_standing commit aborting h i j k = cc
-one_standing abort closed h i j k = cc
-one_standing abort «open» h i j k = refl
-one_standing abort aborting h i j k = cc
-one_standing roll_back closed h i j k = cc
-one_standing roll_back «open» h i j k = cc
-one_standing roll_back aborting h i j k = refl
-one_standing (call b c) closed h i j k = cc
-one_standing (call b c) «open» h i j k = refl
-one_standing (call b c) aborting h i j k = cc
-
 pub accepted_standing : (d : Store) (e : ℕ) (a : Action) → Accepts d e a → (transaction d e).standing ≡ asks a
-accepted_standing d e a h =
-    let r = rows_of_lem d e a h in
-    one_standing a (transaction d e).standing (when-none _ _ r.1.0) (when-none _ _ r.1.1.0)
-    (when-none _ _ r.1.1.1.0) (when-none _ _ r.1.1.1.1.0)
+unfolding refusal_of first_met
+accepted_standing d e a h = grind arith
 
--- what an accepted call found: its cue in range, no conflict, and room
-pub record CallAccepted (d : Store) (e : ℕ) (b : Bool) (c : Call) : Type 0 where
-  pub in_range : b ≡ true
+-- an accepted call has a cue in range
+pub no_call : (d : Store) (e : ℕ) {P : Type 0} → Accepts d e (call None) → P
+unfolding refusal_of first_met
+no_call d e h = absurd (grind arith)
+
+-- what an accepted call found: no conflict, and room
+pub record CallAccepted (d : Store) (e : ℕ) (c : Call) : Type 0 where
   pub free : blocker e (lock_of c) 1 d.transactions ≡ None
   pub locks : locks_full (lock_of c) (transaction d e).locks ≡ false
   pub log : log_full (entry_of c (reply c d.state)) (transaction d e).log ≡ false
   pub script : script_full (entry_of c (reply c d.state)) (reserved d) ≡ false
   pub queue : queue_full (entry_of c (reply c d.state)) (queue_slots d) ≡ false
 
-pub accepted_call : (d : Store) (e : ℕ) (b : Bool) (c : Call) → Accepts d e (call b c) → CallAccepted d e b c
-accepted_call d e b c h =
-    let r = (rows_of_lem d e (call b c) h).1.1.1.1.1 in
-    let rest = r.1 in
-    record {
-      in_range = not-false b (when-none (not b) _ r.0);
-      free = free_none (blocker e (lock_of c) 1 d.transactions) rest.0;
-      locks = when-none _ _ rest.1.0;
-      log = when-none _ _ rest.1.1.0;
-      script = when-none _ _ rest.1.1.1.0;
-      queue = when-none _ _ rest.1.1.1.1.0;
-    }
+pub accepted_call : (d : Store) (e : ℕ) (c : Call) → Accepts d e (call (Some c)) → CallAccepted d e c
+unfolding refusal_of first_met
+accepted_call d e c h = grind arith
+
+-- what an accepted call leaves of its transaction
+abbrev pub called : Store → ℕ → Call → Transaction
+called d e c = record {
+  standing = «open»;
+  locks = hold (lock_of c) (transaction d e).locks;
+  log = noted (entry_of c (reply c d.state)) (transaction d e).log;
+}
 
 -- ---- what is refused, and what is accepted
 
@@ -139,6 +74,17 @@ step_refused d (Some q) r h = rw h refl
 pub step_accepted : (d : Store) (e : ℕ) (a : Action) → Accepts d e a → step_on d (request e a) ≡ perform d e a
 unfolding step_on
 step_accepted d e a h = rw h refl
+
+-- a step is refused, or accepted and performed
+pub step_case : (d : Store) (e : ℕ) (a : Action) (P : Out → Type 0)
+    → ((r : Refusal) → refusal_of d (request e a) ≡ Some r → P (refuse d r)) → (Accepts d e a → P (perform d e a))
+    → P (step_on d (request e a))
+unfolding step_on
+step_case d e a P f g = go (refusal_of d (request e a)) refl
+  where
+    go : (o : Option Refusal) → refusal_of d (request e a) ≡ o → P (decided o d e a)
+    go (Some r) h = f r h
+    go None h = g h
 
 pub Accepts-abort : (d : Store) (e : ℕ) → valid e ≡ true → (transaction d e).standing ≡ «open» → Accepts d e abort
 unfolding refusal_of first_met

@@ -1,65 +1,34 @@
 -- The theorems on what opening, stepping and recovery keep, and that an aborting transaction unwinds in as many steps
 -- as it has entries. Assumes nothing.
 use Prim.Native.Nat.{ℕ, zero, suc, ◌≤◌, max}
-use mathlib.Core.Path.{◌≡◌, refl, ap, ◌∙◌}
+use mathlib.Core.Path.{◌≡◌, refl}
 use mathlib.Core.List.{List, [], ◌∷◌}
-use Rattle.std.specs.Prelude.{Option, None, Some}
-use native.Mathlib.Nat.{suc-max-suc, zero-max}
+use Rattle.std.specs.Prelude.{Bool, true, false, if◌then◌else◌, Option, None, Some}
 use native.Mathlib.Omega.{arith}
 use lib.ListN.{length, replicate}
-use Rattle.refusals.specs.declared.Refusal.{Refusal}
-use Rattle.cues.specs.Cue.{CueKey}
+use Rattle.cues.specs.Cue.{in_range, key_of}
+use Rattle.cues.specs.declared.Cue.{Cue}
 use Rattle.cues.proofs.Theorems.{key_is_cue_key}
 use Rattle.steps.specs.declared.reading.Step.{Step}
 use Rattle.steps.specs.declared.reading.Step.TheVariants.{WithNumber, WithCue}
-use Rattle.step_words.specs.declared.NumberWord.{NumberWord}
-use Rattle.step_words.specs.declared.NumberWord.TheVariants.{Begin, Min, Take, Commit, Undo, Back}
-use Rattle.step_words.specs.declared.CueWord.{CueWord}
-use Rattle.step_words.specs.declared.CueWord.TheVariants.{Add, Remove, Has, Push}
 use Rattle.steps.specs.Step.{step_of}
 use Rattle.tables.proofs.Laws.{subset_length}
 use Rattle.scripts.proofs.Theorems.{read_is_sound}
 use Rattle.boosting.specs.Undo.{Entry}
 use Rattle.boosting.specs.Store.{closed_transaction, Store, started, opened, transaction}
 use Rattle.boosting.specs.Room.{reserved_by, reserved_in, reserved, takes_by, takes_in}
-use Rattle.boosting.specs.Rows.{
-  Action,
-  begin,
-  commit,
-  abort,
-  roll_back,
-  call,
-  Request,
-  request,
-  number_action,
-  cue_call,
-  request_of,
-  refusal_of,
-}
-use Rattle.boosting.specs.Step.{perform, decided, step_on, step_line}
+use Rattle.boosting.specs.Rows.{Action, begin, commit, abort, roll_back, call, Request, request, cue_call, request_of}
+use Rattle.boosting.specs.Rows.{refusal_of}
+use Rattle.boosting.specs.Step.{perform, step_on, step_line}
 use Rattle.boosting.specs.Run.{Run, advance, run_from}
-use Rattle.boosting.specs.Recovery.{roll_backs, recover_one, recover}
-use Rattle.boosting.specs.Sound.{AllSound, Sound, CallKey, RequestKey}
-use Rattle.boosting.specs.Theorems.{
-  OpenedIsSound,
-  SteppingKeepsSound,
-  RunKeepsSound,
-  RecoveryKeepsSound,
-  SoundHasRoom,
-  AbortingUnwinds,
-}
+use Rattle.boosting.specs.Sound.{AllSound, Sound, ActionKey, RequestKey}
+use Rattle.boosting.specs.Theorems.{OpenedIsSound, SteppingKeepsSound, RunKeepsSound, RecoveryKeepsSound, SoundHasRoom}
+use Rattle.boosting.specs.Theorems.{AbortingUnwinds}
 use Rattle.boosting.proofs.Slots.{script-reserved}
-use Rattle.boosting.proofs.Accepted.{accepted_valid, accepted_call}
-use Rattle.boosting.proofs.Unwinding.{further, Aborting, closes, stays}
-use Rattle.boosting.proofs.Keeping.{
-  closed_sound,
-  transaction-Sound,
-  begin_sound,
-  close_sound,
-  abort_sound,
-  undo_sound,
-  call_sound,
-}
+use Rattle.boosting.proofs.Accepted.{accepted_valid, accepted_call, step_case}
+use Rattle.boosting.proofs.Unwinding.{recovery_keeps, further, Aborting, closes, stays}
+use Rattle.boosting.proofs.Keeping.{closed_sound, transaction-Sound, begin_sound, close_sound, abort_sound, undo_sound}
+use Rattle.boosting.proofs.Keeping.{call_sound}
 
 -- ---- opening
 
@@ -84,25 +53,18 @@ opened_is_sound text =
 
 -- ---- one step
 
-number_key : (w : NumberWord) (e : ℕ) → RequestKey (request e (number_action w))
-number_key Begin e = tt
-number_key Min e = λ h. tt
-number_key Take e = λ h. tt
-number_key Commit e = tt
-number_key Undo e = tt
-number_key Back e = tt
-
--- a word's call on a cue has the cue's key
-pub cue_call_key : (w : CueWord) (k : ℕ) → CueKey k → CallKey (cue_call w k)
-cue_call_key Add k h = h
-cue_call_key Remove k h = h
-cue_call_key Has k h = h
-cue_call_key Push k h = h
-
 pub request_key : (s : Option Step) → RequestKey (request_of s)
-request_key (Some (WithNumber w e)) = number_key w e
-request_key (Some (WithCue w e n)) = λ h. cue_call_key w _ (key_is_cue_key _ h)
 request_key None = tt
+request_key (Some (WithNumber w e)) = grind arith
+request_key (Some (WithCue w e n)) = go (in_range n.time n.«module» n.pin) refl
+  where
+    cue : Cue
+    cue = record { time = n.time; «module» = n.«module»; pin = n.pin }
+
+    go : (b : Bool) → in_range n.time n.«module» n.pin ≡ b
+        → ActionKey (call (if b then Some (cue_call w (key_of cue)) else None))
+    go true h = let k = key_is_cue_key cue h in grind arith
+    go false h = tt
 
 perform-Sound : (d : Store) (e : ℕ) (a : Action) → Sound d → RequestKey (request e a)
     → refusal_of d (request e a) ≡ None → Sound (perform d e a).store
@@ -111,19 +73,17 @@ perform-Sound d e begin v k h = begin_sound d e v (accepted_valid d e begin h)
 perform-Sound d e commit v k h = close_sound d e v (accepted_valid d e commit h)
 perform-Sound d e abort v k h = abort_sound d e v (accepted_valid d e abort h)
 perform-Sound d e roll_back v k h = undo_sound d e (transaction d e).log v (accepted_valid d e roll_back h) refl
-perform-Sound d e (call b c) v k h =
-    let g = accepted_call d e b c h in
-    call_sound d e b c v (accepted_valid d e (call b c) h) (k g.in_range) g
+perform-Sound d e (call None) v k h = v
+perform-Sound d e (call (Some c)) v k h =
+    call_sound d e c v (accepted_valid d e (call (Some c)) h) k (accepted_call d e c h)
 
 -- a refused request changes nothing
 pub request_keeps_sound : (d : Store) (q : Option Request) → Sound d → RequestKey q → Sound (step_on d q).store
 unfolding step_on
 request_keeps_sound d None v k = v
-request_keeps_sound d (Some q) v k = go (refusal_of d (Some q)) refl
-  where
-    go : (o : Option Refusal) → refusal_of d (Some q) ≡ o → Sound (decided o d q.transaction q.action).store
-    go (Some r) h = v
-    go None h = perform-Sound d q.transaction q.action v k h
+request_keeps_sound d (Some q) v k =
+    step_case d q.transaction q.action (λ o. Sound o.store) (λ r h. v)
+    (perform-Sound d q.transaction q.action v k)
 
 pub stepping_keeps_sound : SteppingKeepsSound
 unfolding step_line
@@ -141,19 +101,10 @@ run_keeps_sound d lines v = from_keeps_sound lines _ v
 
 -- ---- recovery
 
-pub rolled_back_sound : (n : ℕ) (d : Store) (e : ℕ) → Sound d → Sound (roll_backs n d e)
-unfolding roll_backs
-rolled_back_sound zero d e v = v
-rolled_back_sound (suc n) d e v =
-    rolled_back_sound n (step_on d (request e roll_back)).store e (request_keeps_sound d (request e roll_back) v tt)
-
 pub recovery_keeps_sound : RecoveryKeepsSound
-unfolding recover recover_one
-recovery_keeps_sound d [] v = v
-recovery_keeps_sound d (e ∷ order) v =
-    recovery_keeps_sound (recover_one d e) order
-    (rolled_back_sound (suc (length (transaction d e).log)) (step_on d (request e abort)).store e
-    (request_keeps_sound d (request e abort) v tt))
+recovery_keeps_sound d order v =
+    recovery_keeps Sound (λ d e v. request_keeps_sound d (request e roll_back) v tt)
+    (λ d e v. request_keeps_sound d (request e abort) v tt) order d v
 
 -- ---- room
 
@@ -169,12 +120,7 @@ sound_has_room d v =
 -- ---- unwinding
 
 steps_of : (log : List Entry) → max 1 (length log) ≡ suc (further log)
-steps_of [] = refl
-steps_of (n ∷ log) = suc-max-suc 0 (length log) ∙ ap suc (zero-max (length log))
-
-steps_at_most : (log : List Entry) → length log ≤ 16 → max 1 (length log) ≤ 16
-steps_at_most [] h = omega arith
-steps_at_most (n ∷ log) h = rw (steps_of (n ∷ log)) h
+steps_of log = grind arith
 
 pub aborting_unwinds : AbortingUnwinds
 aborting_unwinds d e v h a =
@@ -184,5 +130,5 @@ aborting_unwinds d e v h a =
     record {
       after = rw q (closes e h m m d (omega arith) g);
       before = λ n b. stays e h n m d (rw q at b) g;
-      at_most = steps_at_most (transaction d e).log (transaction-Sound d e v).log_at_most;
+      at_most = omega (arith, (transaction-Sound d e v).log_at_most);
     }

@@ -9,10 +9,9 @@ use mathlib.Core.Logic.{◌⊎◌, inl, inr}
 use Rattle.std.specs.Prelude.{Option, None, Some}
 use native.Mathlib.Omega.{arith}
 use lib.Dec.{eqb}
-use borrow.Author.Tests.{eq-eqb, ne_eqb}
+use borrow.Author.Tests.{ne_eqb}
 use Rattle.boosting.specs.Object.{Call, Reply, State, effect, reply}
 use Rattle.boosting.specs.Undo.{Entry, entry_of, inverse, noted}
-use Rattle.boosting.proofs.Sorted.{EqNe, eq, ne, eq_ne}
 use Rattle.boosting.proofs.ObjectLaws.{Good, Commute, Free, effect-Good, idle, cancel}
 
 -- a call of the transaction `of`, with the reply that the desk gave
@@ -65,69 +64,6 @@ Clear t = (i j : Item) → In i t → In j t → (i.of ≡ j.of → ⊥) → Fre
 Clear-tail : (i : Item) (t : List Item) → Clear (i ∷ t) → Clear t
 Clear-tail i t k a b p q = k a b (inr p) (inr q)
 
--- ---- the branches
-
-module _ (e : ℕ) (i : Item) (t : List Item) where
-  pub mine_eq : i.of ≡ e → mine e (i ∷ t) ≡ i ∷ mine e t
-  unfolding mine
-  mine_eq h = rw (eq-eqb i.of e h)
-
-  pub mine_ne : (i.of ≡ e → ⊥) → mine e (i ∷ t) ≡ mine e t
-  unfolding mine
-  mine_ne h = rw (ne_eqb i.of e h)
-
-  others_eq : i.of ≡ e → others e (i ∷ t) ≡ others e t
-  unfolding others
-  others_eq h = rw (eq-eqb i.of e h)
-
-  others_ne : (i.of ≡ e → ⊥) → others e (i ∷ t) ≡ i ∷ others e t
-  unfolding others
-  others_ne h = rw (ne_eqb i.of e h)
-
-  less_eq : i.of ≡ e → less e (i ∷ t) ≡ t
-  unfolding less
-  less_eq h = rw (eq-eqb i.of e h)
-
-  less_ne : (i.of ≡ e → ⊥) → less e (i ∷ t) ≡ i ∷ less e t
-  unfolding less
-  less_ne h = rw (ne_eqb i.of e h)
-
-pub mine-nil : (e : ℕ) → mine e [] ≡ []
-unfolding mine
-mine-nil e = refl
-
-others-nil : (e : ℕ) → others e [] ≡ []
-unfolding others
-others-nil e = refl
-
-less-nil : (e : ℕ) → less e [] ≡ []
-unfolding less
-less-nil e = refl
-
-pub entries-nil : entries [] ≡ []
-unfolding entries
-entries-nil = refl
-
-pub entries-cons : (i : Item) (t : List Item) → entries (i ∷ t) ≡ noted (entry_of i.call i.reply) (entries t)
-unfolding entries
-entries-cons i t = refl
-
-pub play-nil : (s : State) → play s [] ≡ s
-unfolding play
-play-nil s = refl
-
-pub play-cons : (s : State) (i : Item) (t : List Item) → play s (i ∷ t) ≡ effect i.call (play s t)
-unfolding play
-play-cons s i t = refl
-
-pub undo_none : (s : State) → undo_all [] s ≡ s
-unfolding undo_all
-undo_none s = refl
-
-pub undo_one : (n : Entry) (s : State) → undo_all (n ∷ []) s ≡ inverse n s
-unfolding undo_all
-undo_one n s = refl
-
 -- ---- playing
 
 pub play-Good : (s : State) (t : List Item) → Good s → Good (play s t)
@@ -151,58 +87,32 @@ record Slid (c : Call) (s : State) (t : List Item) : Type 0 where
   pub same : Same s t → Same (effect c s) t
 
 slide : (c : Call) (s : State) (t : List Item) → Good s → ((j : Item) → In j t → Free c j.call) → Slid c s t
-slide c s [] g f = record {
-  state = cc (play-nil s, play-nil (effect c s));
-  reply = cc (play-nil s);
-  same = λ q. tt;
-}
-slide c s (j ∷ t) g f = go (slide c s t g (λ k p. f k (inr p))) (f j (inl refl) (play s t) (play-Good s t g))
-  where
-    go : Slid c s t → Commute c j.call (play s t) → Slid c s (j ∷ t)
-    go r m = record {
-      state = cc (play-cons s j t, play-cons (effect c s) j t, r.state, m.states);
-      reply = cc (play-cons s j t, r.reply, m.first);
-      same = λ q. (cc (r.state, m.second, q.0), r.same q.1);
-    }
+unfolding play
+slide c s [] g f = record { state = refl; reply = refl; same = λ q. tt }
+slide c s (j ∷ t) g f =
+    grind (arith, slide c s t g (λ k p. f k (inr p)), f j (inl refl) (play s t) (play-Good s t g))
 
 -- ---- membership
 
 pub In-others : (e : ℕ) (t : List Item) (i : Item) → In i (others e t) → In i t × (i.of ≡ e → ⊥)
-In-others e [] i p = absurd (rw others-nil at p)
-In-others e (j ∷ t) i p = go (eq_ne j.of e) (λ p'. In-others e t i p')
-  where
-    go : EqNe j.of e → (In i (others e t) → In i t × (i.of ≡ e → ⊥)) → In i (j ∷ t) × (i.of ≡ e → ⊥)
-    go (eq q) ih = let h = ih (rw (others_eq e j t q) at p) in (inr h.0, h.1)
-    go (ne q) ih = at_ne (rw (others_ne e j t q) at p)
-      where
-        at_ne : (i ≡ j) ⊎ In i (others e t) → In i (j ∷ t) × (i.of ≡ e → ⊥)
-        at_ne (inl h) = (inl h, λ z. q (cc))
-        at_ne (inr h) = (inr (ih h).0, (ih h).1)
+unfolding others
+In-others e [] i p = absurd p
+In-others e (j ∷ t) i p = grind (arith, In-others e t i)
 
 In-less : (e : ℕ) (t : List Item) (i : Item) → In i (less e t) → In i t
-In-less e [] i p = absurd (rw less-nil at p)
-In-less e (j ∷ t) i p = go (eq_ne j.of e) (λ p'. In-less e t i p')
-  where
-    go : EqNe j.of e → (In i (less e t) → In i t) → In i (j ∷ t)
-    go (eq q) ih = inr (rw (less_eq e j t q) at p)
-    go (ne q) ih = at_ne (rw (less_ne e j t q) at p)
-      where
-        at_ne : (i ≡ j) ⊎ In i (less e t) → In i (j ∷ t)
-        at_ne (inl h) = inl h
-        at_ne (inr h) = inr (ih h)
+unfolding less
+In-less e [] i p = p
+In-less e (j ∷ t) i p = grind (arith, In-less e t i)
 
 pub mine_none : (e : ℕ) (t : List Item) → mine e t ≡ [] → (i : Item) → In i t → i.of ≡ e → ⊥
+unfolding mine
 mine_none e [] m i p q = p
-mine_none e (j ∷ t) m i p q = go (eq_ne j.of e) p (λ m' p'. mine_none e t m' i p' q)
-  where
-    go : EqNe j.of e → In i (j ∷ t) → (mine e t ≡ [] → In i t → ⊥) → ⊥
-    go (eq h) p' ih = let z : ◌≡◌ {A = ℕ} 0 1 = cc (mine_eq e j t h) in omega arith
-    go (ne h) (inl w) ih = h (cc)
-    go (ne h) (inr w) ih = ih (cc (mine_ne e j t h)) w
+mine_none e (j ∷ t) m i p q = grind (arith, mine_none e t)
 
 pub none_of : (e : ℕ) (t : List Item) → ((i : Item) → In i t → i.of ≡ e → ⊥) → mine e t ≡ []
-none_of e [] f = mine-nil e
-none_of e (i ∷ t) f = cc (mine_ne e i t (f i (inl refl)), none_of e t (λ j p. f j (inr p)))
+unfolding mine
+none_of e [] f = refl
+none_of e (i ∷ t) f = grind (arith, f i (inl refl), none_of e t (λ j p. f j (inr p)))
 
 -- ---- a commit: e's calls first, then the others
 
@@ -212,51 +122,19 @@ pub record Split (e : ℕ) (s : State) (t : List Item) : Type 0 where
   pub rest : Same (play s (mine e t)) (others e t)
 
 pub split : (e : ℕ) (s : State) (t : List Item) → Good s → Clear t → Same s t → Split e s t
-split e s [] g k q = record {
-  state = cc (mine-nil e, others-nil e, play-nil s);
-  own = rw mine-nil tt;
-  rest = rw others-nil tt;
-}
-split e s (i ∷ t) g k q = go (eq_ne i.of e) (split e s t g (Clear-tail i t k) q.1)
-  where
-    go : EqNe i.of e → Split e s t → Split e s (i ∷ t)
-    go (eq h) r =
-        let free : (j : Item) → In j (others e t) → Free i.call j.call =
-        λ j p. k i j (inl refl) (inr (In-others e t j p).0) (λ z. (In-others e t j p).1 (cc)) in
-        let l = slide i.call (play s (mine e t)) (others e t) (play-Good s (mine e t) g) free in
-        record {
-          state = cc (
-            play-cons s i t,
-            r.state,
-            l.state,
-            mine_eq e i t h,
-            others_eq e i t h,
-            play-cons s i (mine e t),
-          );
-          own = rw (mine_eq e i t h) (cc (q.0, r.state, l.reply), r.own);
-          rest = rw (mine_eq e i t h, others_eq e i t h, play-cons s i (mine e t)) (l.same r.rest);
-        }
-    go (ne h) r = record {
-      state = cc (
-        play-cons s i t,
-        r.state,
-        mine_ne e i t h,
-        others_ne e i t h,
-        play-cons (play s (mine e t)) i (others e t),
-      );
-      own = rw (mine_ne e i t h) r.own;
-      rest = rw (mine_ne e i t h, others_ne e i t h) (cc (q.0, r.state), r.rest);
-    }
+unfolding mine others play
+split e s [] g k q = record { state = refl; own = tt; rest = tt }
+split e s (i ∷ t) g k q =
+    let r = split e s t g (Clear-tail i t k) q.1 in
+    let l : i.of ≡ e → Slid i.call (play s (mine e t)) (others e t) = λ h.
+    slide i.call (play s (mine e t)) (others e t) (play-Good s (mine e t) g)
+    (λ j p. k i j (inl refl) (inr (In-others e t j p).0) (λ z. (In-others e t j p).1 (cc))) in
+    grind (arith, l, r)
 
 pub mine-others : (e f : ℕ) (t : List Item) → (f ≡ e → ⊥) → mine f (others e t) ≡ mine f t
-mine-others e f [] n = cc (others-nil e)
-mine-others e f (i ∷ t) n = go (eq_ne i.of e) (eq_ne i.of f) (mine-others e f t n)
-  where
-    go : EqNe i.of e → EqNe i.of f → mine f (others e t) ≡ mine f t → mine f (others e (i ∷ t)) ≡ mine f (i ∷ t)
-    go (eq h) (eq h') ih = absurd (n (cc))
-    go (eq h) (ne h') ih = cc (others_eq e i t h, mine_ne f i t h')
-    go (ne h) (eq h') ih = cc (others_ne e i t h, mine_eq f i t h', mine_eq f i (others e t) h')
-    go (ne h) (ne h') ih = cc (others_ne e i t h, mine_ne f i t h', mine_ne f i (others e t) h')
+unfolding mine others
+mine-others e f [] n = refl
+mine-others e f (i ∷ t) n = grind (arith, mine-others e f t n)
 
 -- ---- taking back: e's newest call is moved to the front
 
@@ -268,47 +146,10 @@ record Taken (e : ℕ) (s : State) (t : List Item) (x : Item) (p : List Item) : 
   pub item : In x t
   pub of : x.of ≡ e
 
-taken : (e : ℕ) (s : State) (t : List Item) (x : Item) (p : List Item) → Good s → Clear t → Same s t
-    → mine e t ≡ x ∷ p → Taken e s t x p
-taken e s [] x p g k q m = absurd (let z : ◌≡◌ {A = ℕ} 0 1 = cc (mine-nil e) in omega arith)
-taken e s (i ∷ t) x p g k q m = go (eq_ne i.of e) (λ m'. taken e s t x p g (Clear-tail i t k) q.1 m')
-  where
-    go : EqNe i.of e → (mine e t ≡ x ∷ p → Taken e s t x p) → Taken e s (i ∷ t) x p
-    go (eq h) ih =
-        let u = less_eq e i t h in
-        let w : i ∷ mine e t ≡ x ∷ p = cc (mine_eq e i t h) in
-        let ix : i ≡ x = cc in
-        record {
-          state = cc (u, play-cons s i t);
-          reply = cc (u, q.0);
-          same = rw u q.1;
-          own = cc;
-          item = inl (cc);
-          of = cc;
-        }
-    go (ne h) ih =
-        let r = ih (cc (mine_ne e i t h)) in
-        let u = less_ne e i t h in
-        let l = less e t in
-        let m = k i x (inl refl) (inr r.item) (λ z. h (cc r.of)) (play s l) (play-Good s l g) in
-        record {
-          state = cc (r.state, u, play-cons s i t, play-cons s i (less e t), m.states);
-          reply = cc (r.reply, u, play-cons s i (less e t), m.second);
-          same = rw u (cc (r.state, q.0, m.first), r.same);
-          own = cc (r.own, u, mine_ne e i (less e t) h);
-          item = inr r.item;
-          of = r.of;
-        }
-
 mine-less : (e f : ℕ) (t : List Item) → (f ≡ e → ⊥) → mine f (less e t) ≡ mine f t
-mine-less e f [] n = cc (less-nil e)
-mine-less e f (i ∷ t) n = go (eq_ne i.of e) (eq_ne i.of f) (mine-less e f t n)
-  where
-    go : EqNe i.of e → EqNe i.of f → mine f (less e t) ≡ mine f t → mine f (less e (i ∷ t)) ≡ mine f (i ∷ t)
-    go (eq h) (eq h') ih = absurd (n (cc))
-    go (eq h) (ne h') ih = cc (less_eq e i t h, mine_ne f i t h')
-    go (ne h) (eq h') ih = cc (less_ne e i t h, mine_eq f i t h', mine_eq f i (less e t) h')
-    go (ne h) (ne h') ih = cc (less_ne e i t h, mine_ne f i t h', mine_ne f i (less e t) h')
+unfolding mine less
+mine-less e f [] n = refl
+mine-less e f (i ∷ t) n = grind (arith, mine-less e f t n)
 
 -- e's newest calls q are taken back: what is left is a trace with e's other calls p
 pub record Cut (e : ℕ) (s : State) (t : List Item) (q p : List Item) : Type 0 where
@@ -319,42 +160,6 @@ pub record Cut (e : ℕ) (s : State) (t : List Item) (q p : List Item) : Type 0 
   pub sub : (i : Item) → In i trace → In i t
   pub mines : (f : ℕ) → (f ≡ e → ⊥) → mine f trace ≡ mine f t
 
-pub cut : (e : ℕ) (s : State) (q p t : List Item) → Good s → Clear t → Same s t → mine e t ≡ q ++ p → Cut e s t q p
-unfolding undo_all
-cut e s [] p t g k a m = record {
-  trace = t;
-  state = cc (entries-nil);
-  same = a;
-  own = m;
-  sub = λ i w. w;
-  mines = λ f n. refl;
-}
-cut e s (x ∷ q) p t g k a m =
-    let r = taken e s t x (q ++ p) g k a m in
-    let k' : Clear (less e t) = λ i j u w. k i j (In-less e t i u) (In-less e t j w) in
-    let c = cut e s q p (less e t) g k' r.same r.own in
-    record {
-      trace = c.trace;
-      state = go r c (entry_of x.call x.reply) refl;
-      same = c.same;
-      own = c.own;
-      sub = λ i w. In-less e t i (c.sub i w);
-      mines = λ f n. c.mines f n ∙ mine-less e f t n;
-    }
-  where
-    go : Taken e s t x (q ++ p) → (c : Cut e s (less e t) q p) → (o : Option Entry) → entry_of x.call x.reply ≡ o
-        → play s c.trace ≡ undo_all (entries (x ∷ q)) (play s t)
-    go r c None o =
-        let s' = play s (less e t) in
-        let w : effect x.call s' ≡ s' = idle x.call s' (play-Good s (less e t) g) (cc r.reply) in
-        cc (entries-cons x q, c.state, r.state, w)
-    go r c (Some n) o =
-        let s' = play s (less e t) in
-        let w : inverse n (effect x.call s') ≡ s' =
-        cancel x.call s' n (play-Good s (less e t) g) (cc r.reply) in
-        let u : entries (x ∷ q) ≡ n ∷ entries q = cc (entries-cons x q) in
-        rw u (cc (c.state, r.state, w))
-
 -- the calls down to the newest entry
 pub record Newest (t : List Item) (n : Entry) (ns : List Entry) : Type 0 where
   pub q : List Item
@@ -364,20 +169,43 @@ pub record Newest (t : List Item) (n : Entry) (ns : List Entry) : Type 0 where
   pub under : entries p ≡ ns
 
 pub newest : (t : List Item) (n : Entry) (ns : List Entry) → entries t ≡ n ∷ ns → Newest t n ns
-newest [] n ns h = absurd (let z : ◌≡◌ {A = ℕ} 0 1 = cc (entries-nil) in omega arith)
-newest (i ∷ t) n ns h = go (entry_of i.call i.reply) refl (λ h'. newest t n ns h')
+unfolding entries
+newest [] n ns h = cc
+newest (i ∷ t) n ns h = go (entry_of i.call i.reply) refl (newest t n ns)
   where
     go : (o : Option Entry) → entry_of i.call i.reply ≡ o → (entries t ≡ n ∷ ns → Newest t n ns)
         → Newest (i ∷ t) n ns
     go None o ih =
-        let r = ih (cc (entries-cons i t)) in
-        record {
-          q = i ∷ r.q;
-          p = r.p;
-          parts = cc r.parts;
-          top = cc (entries-cons i r.q, r.top);
-          under = r.under;
-        }
-    go (Some m) o ih =
-        let w : m ∷ entries t ≡ n ∷ ns = cc (entries-cons i t) in
-        record { q = i ∷ []; p = t; parts = refl; top = cc (entries-cons i [], entries-nil); under = cc }
+        let r = ih (rw o at h) in
+        record { q = i ∷ r.q; p = r.p; parts = grind arith; top = grind arith; under = r.under }
+    go (Some m) o ih = record { q = i ∷ []; p = t; parts = refl; top = grind arith; under = grind arith }
+
+taken : (e : ℕ) (s : State) (t : List Item) (x : Item) (p : List Item) → Good s → Clear t → Same s t
+    → mine e t ≡ x ∷ p → Taken e s t x p
+unfolding mine less play
+taken e s [] x p g k q m = cc
+taken e s (i ∷ t) x p g k q m =
+    let r : (i.of ≡ e → ⊥) → Taken e s t x p = λ h.
+    taken e s t x p g (Clear-tail i t k) q.1 (rw (ne_eqb i.of e h) at m) in
+    let f : (i.of ≡ e → ⊥) → Commute i.call x.call (play s (less e t)) = λ h.
+    k i x (inl refl) (inr (r h).item) (λ z. h (cc (r h).of)) (play s (less e t)) (play-Good s (less e t) g) in
+    grind (arith, r, f)
+
+pub cut : (e : ℕ) (s : State) (q p t : List Item) → Good s → Clear t → Same s t → mine e t ≡ q ++ p → Cut e s t q p
+unfolding undo_all entries
+cut e s [] p t g k a m = record { trace = t; state = refl; same = a; own = m; sub = λ i w. w; mines = λ f n. refl }
+cut e s (x ∷ q) p t g k a m =
+    let r = taken e s t x (q ++ p) g k a m in
+    let k' : Clear (less e t) = λ i j u w. k i j (In-less e t i u) (In-less e t j w) in
+    let c = cut e s q p (less e t) g k' r.same r.own in
+    let l = less e t in
+    let i = idle x.call (play s l) (play-Good s l g) in
+    let w = λ (n : Entry). cancel x.call (play s l) n (play-Good s l g) in
+    record {
+      trace = c.trace;
+      state = grind (arith, c, r, i, w);
+      same = c.same;
+      own = c.own;
+      sub = λ i w. In-less e t i (c.sub i w);
+      mines = λ f n. c.mines f n ∙ mine-less e f t n;
+    }

@@ -1,22 +1,20 @@
 -- Rollback steps of one transaction: each closes it or takes one entry off its log, so that as many as it has entries,
--- or one if it has none, close it, and no fewer; closed transactions stay closed. Assumes nothing.
+-- or one if it has none, close it, and no fewer. What aborts and rollback steps keep, recovery keeps: so closed
+-- transactions stay closed. Assumes nothing.
 use Prim.Native.Nat.{ℕ, zero, suc, ◌≤◌, ◌<◌}
-use mathlib.Core.Path.{◌≡◌, refl, ap, ◌∙◌}
+use mathlib.Core.Path.{◌≡◌}
 use mathlib.Core.Bool.{true}
 use mathlib.Core.List.{List, [], ◌∷◌}
-use Rattle.std.specs.Prelude.{Option, None, Some}
-use native.Mathlib.Nat.{le_of_suc-le-suc, not-suc-le-zero}
 use native.Mathlib.Omega.{arith}
 use lib.ListN.{length}
-use Rattle.refusals.specs.declared.Refusal.{Refusal}
 use Rattle.boosting.specs.Undo.{Entry, inverse}
 use Rattle.boosting.specs.Locks.{Locks}
 use Rattle.boosting.specs.Store.{closed, aborting, Transaction, closed_transaction, Store, valid, transaction}
-use Rattle.boosting.specs.Rows.{Action, begin, commit, abort, roll_back, call, request, refusal_of}
+use Rattle.boosting.specs.Rows.{Action, abort, roll_back, request}
 use Rattle.boosting.specs.Step.{accept, unwound, undo_newest, perform, step_on}
-use Rattle.boosting.specs.Recovery.{roll_backs}
-use Rattle.boosting.proofs.StoreLaws.{put_other, Changed, changed, aborting_unclosed}
-use Rattle.boosting.proofs.Accepted.{asks, accepted_standing, step_refused, step_accepted, Accepts-roll_back}
+use Rattle.boosting.specs.Recovery.{roll_backs, recover_one, recover}
+use Rattle.boosting.proofs.StoreLaws.{put_other, Changed, changed}
+use Rattle.boosting.proofs.Accepted.{asks, accepted_standing, step_case, step_accepted, Accepts-roll_back}
 
 abbrev pub rolled_back : Store → ℕ → Store
 rolled_back d e = (step_on d (request e roll_back)).store
@@ -26,36 +24,46 @@ Closed d f = (transaction d f).standing ≡ closed
 
 -- ---- transactions that a step does not name, and closed ones
 
-undo_other : (d : Store) (e f : ℕ) (log : List Entry) → (f ≡ e → ⊥)
-    → transaction (undo_newest d e log).store f ≡ transaction d f
-undo_other d e f [] n = put_other d _ e f _ n
-undo_other d e f (m ∷ log) n = put_other d _ e f _ n
-
 perform_other : (d : Store) (e f : ℕ) (a : Action) → (f ≡ e → ⊥)
     → transaction (perform d e a).store f ≡ transaction d f
 unfolding perform accept
-perform_other d e f begin n = put_other d _ e f _ n
-perform_other d e f commit n = put_other d _ e f _ n
-perform_other d e f abort n = put_other d _ e f _ n
-perform_other d e f roll_back n = rw undo_other
-perform_other d e f (call b c) n = put_other d _ e f _ n
+perform_other d e f a n = grind (arith, put_other)
 
 -- a step that asks for an unclosed transaction leaves closed ones closed
 pub step_stays : (d : Store) (e : ℕ) (a : Action) → (asks a ≡ closed → ⊥) → (f : ℕ) → Closed d f
     → Closed (step_on d (request e a)).store f
-step_stays d e a n f s = go (refusal_of d (request e a)) refl
-  where
-    go : (o : Option Refusal) → refusal_of d (request e a) ≡ o → Closed (step_on d (request e a)).store f
-    go (Some r) h = rw (step_refused d (request e a) r h) s
-    go None h =
-        let m : f ≡ e → ⊥ = λ q. n (cc (accepted_standing d e a h)) in
-        rw (step_accepted d e a h, perform_other d e f a m) s
+step_stays d e a n f s =
+    step_case d e a (λ o. Closed o.store f) (λ r h. s)
+    (λ h. rw (perform_other d e f a (λ q. n (cc (accepted_standing d e a h)))) s)
 
-rolls_stay : (n : ℕ) (d : Store) (e : ℕ) → Closed d e → Closed (roll_backs n d e) e
-unfolding roll_backs
-rolls_stay zero d e s = s
-rolls_stay (suc n) d e s =
-    rolls_stay n (rolled_back d e) e (step_stays d e roll_back (aborting_unclosed (asks roll_back) refl) e s)
+-- ---- what aborts and rollback steps keep, recovery keeps
+
+abbrev pub aborted_at : Store → ℕ → Store
+aborted_at d e = (step_on d (request e abort)).store
+
+module _ (P : Store → Type 0) (rolls : (d : Store) (e : ℕ) → P d → P (rolled_back d e)) where
+  pub rolls_keep : (n : ℕ) (d : Store) (e : ℕ) → P d → P (roll_backs n d e)
+  unfolding roll_backs
+  rolls_keep zero d e p = p
+  rolls_keep (suc n) d e p = rolls_keep n (rolled_back d e) e (rolls d e p)
+
+  module _ (aborts : (d : Store) (e : ℕ) → P d → P (aborted_at d e)) where
+    pub one_keeps : (d : Store) (e : ℕ) → P d → P (recover_one d e)
+    unfolding recover_one
+    one_keeps d e p = rolls_keep (suc (length (transaction d e).log)) (aborted_at d e) e (aborts d e p)
+
+    pub recovery_keeps : (order : List ℕ) (d : Store) → P d → P (recover d order)
+    unfolding recover
+    recovery_keeps [] d p = p
+    recovery_keeps (e ∷ es) d p = recovery_keeps es (recover_one d e) (one_keeps d e p)
+
+pub rolls_stay : (f n : ℕ) (d : Store) (e : ℕ) → Closed d f → Closed (roll_backs n d e) f
+rolls_stay f = rolls_keep (λ d. Closed d f) (λ d e. step_stays d e roll_back (λ k. cc) f)
+
+pub recovery_stays : (f : ℕ) (order : List ℕ) (d : Store) → Closed d f → Closed (recover d order) f
+recovery_stays f =
+    recovery_keeps (λ d. Closed d f) (λ d e. step_stays d e roll_back (λ k. cc) f)
+    (λ d e. step_stays d e abort (λ k. cc) f)
 
 -- ---- one rollback step
 
@@ -65,26 +73,12 @@ further [] = 0
 further (n ∷ log) = length log
 
 pub further_at_most : (log : List Entry) → further log ≤ length log
-further_at_most [] = omega arith
-further_at_most (n ∷ log) = omega arith
+further_at_most log = grind arith
 
 -- what a rollback step leaves of the transaction
 abbrev left : List Entry → Locks → Transaction
 left [] l = closed_transaction
 left (n ∷ log) l = unwound log l
-
--- it closes if there is no further step; or else it is aborting with one step fewer to take
-closed-left : (log : List Entry) (l : Locks) → further log ≡ 0 → (left log l).standing ≡ closed
-unfolding closed_transaction
-closed-left [] l h = refl
-closed-left (n ∷ []) l h = refl
-closed-left (n ∷ m ∷ log) l h = absurd (omega arith)
-
-aborting-left : (log : List Entry) (l : Locks) (m : ℕ) → further log ≡ suc m
-    → ((left log l).standing ≡ aborting) × (further (left log l).log ≡ m)
-aborting-left [] l m h = absurd (omega arith)
-aborting-left (n ∷ []) l m h = absurd (omega arith)
-aborting-left (n ∷ k ∷ log) l m h = (refl, omega arith)
 
 -- an aborting transaction that takes so many steps after the first
 pub record Aborting (d : Store) (e m : ℕ) : Type 0 where
@@ -105,27 +99,27 @@ module _ (e : ℕ) (h : valid e ≡ true) where
       go [] = changed d d.state e closed_transaction a.eight h
       go (n ∷ log) = changed d (inverse n d.state) e (unwound log (transaction d e).locks) a.eight h
 
+  -- it closes if there is no further step; or else it is aborting with one step fewer to take
   one_fewer : (d : Store) (m : ℕ) → Aborting d e (suc m) → Aborting (rolled_back d e) e m
   one_fewer d m a =
       let r = rolled_back_lem d (suc m) a in
-      let n = aborting-left (transaction d e).log (transaction d e).locks m a.steps in
-      record {
-        eight = r.eight;
-        standing = ap (λ (t : Transaction). t.standing) r.new ∙ n.0;
-        steps = ap (λ (t : Transaction). further t.log) r.new ∙ n.1;
-      }
+      grind arith
+
+  last : (d : Store) → Aborting d e 0 → Closed (rolled_back d e) e
+  unfolding closed_transaction
+  last d a =
+      let r = rolled_back_lem d 0 a in
+      grind arith
 
   pub closes : (n m : ℕ) (d : Store) → m ≤ n → Aborting d e m → Closed (roll_backs (suc n) d e) e
   unfolding roll_backs
-  closes n zero d b a =
-      rolls_stay n (rolled_back d e) e
-      (ap (λ (t : Transaction). t.standing) (rolled_back_lem d zero a).new
-      ∙ closed-left (transaction d e).log (transaction d e).locks a.steps)
-  closes zero (suc m) d b a = absurd (not-suc-le-zero b)
-  closes (suc n) (suc m) d b a = closes n m (rolled_back d e) (le_of_suc-le-suc b) (one_fewer d m a)
+  closes n zero d b a = rolls_stay e n (rolled_back d e) e (last d a)
+  closes zero (suc m) d b a = absurd (omega arith)
+  closes (suc n) (suc m) d b a = closes n m (rolled_back d e) (omega arith) (one_fewer d m a)
 
-  pub stays : (n m : ℕ) (d : Store) → n < suc m → Aborting d e m → (transaction (roll_backs n d e) e).standing ≡ aborting
+  pub stays : (n m : ℕ) (d : Store) → n < suc m → Aborting d e m
+      → (transaction (roll_backs n d e) e).standing ≡ aborting
   unfolding roll_backs
   stays zero m d b a = a.standing
-  stays (suc n) zero d b a = absurd (not-suc-le-zero (le_of_suc-le-suc b))
-  stays (suc n) (suc m) d b a = stays n m (rolled_back d e) (le_of_suc-le-suc b) (one_fewer d m a)
+  stays (suc n) zero d b a = absurd (omega arith)
+  stays (suc n) (suc m) d b a = stays n m (rolled_back d e) (omega arith) (one_fewer d m a)

@@ -57,7 +57,8 @@ since_action e f begin x xs = if nat_eq f e then [] else xs
 since_action e f commit x xs = xs
 since_action e f abort x xs = xs
 since_action e f roll_back x xs = xs
-since_action e f (call b c) x xs = if nat_eq f e then x c ∷ xs else xs
+since_action e f (call None) x xs = xs
+since_action e f (call (Some c)) x xs = if nat_eq f e then x c ∷ xs else xs
 
 -- with one accepted request more
 abbrev pub since : {A : Type 0} → ℕ → Option Request → (Call → A) → List A → List A
@@ -76,7 +77,7 @@ committed_action f begin calls xs = xs
 committed_action f commit calls xs = calls f ++ xs
 committed_action f abort calls xs = xs
 committed_action f roll_back calls xs = xs
-committed_action f (call b c) calls xs = xs
+committed_action f (call c) calls xs = xs
 
 -- what an accepted request adds to it
 abbrev pub committed : {A : Type 0} → Option Request → (ℕ → List A) → List A → List A

@@ -1,6 +1,6 @@
 -- What a step asks for, and the rows of "What is turned away" that it meets: each row's condition by itself, in the
 -- order of the table. The first row that is met decides. Assumes nothing.
-use Rattle.std.specs.Prelude.{ℕ, Bool, true, false, not, ◌&&◌, List, [], ◌∷◌, Option, None, Some}
+use Rattle.std.specs.Prelude.{ℕ, Bool, true, false, if◌then◌else◌, not, ◌&&◌, List, [], ◌∷◌, Option, None, Some}
 use Rattle.refusals.specs.declared.Refusal.{Refusal}
 use Rattle.refusals.specs.declared.Refusal.TheVariants.{
   TransactionOutOfRange,
@@ -28,7 +28,7 @@ use Rattle.boosting.specs.Undo.{entry_of}
 use Rattle.boosting.specs.Locks.{lock_of}
 use Rattle.boosting.specs.Store.{Standing, closed, «open», aborting, Store, valid, transaction, blocker}
 use Rattle.boosting.specs.Room.{reserved, queue_slots, locks_full, log_full, script_full, queue_full}
--- what a step asks of a transaction: a call comes with whether its cue's numbers are in range
+-- what a step asks of a transaction; `call None` is a call on a cue whose numbers are out of range
 pub use Rattle.vocabulary.specs.declared.Action.{Action}
 pub use Rattle.vocabulary.specs.declared.Request.{Request}
 pub use Rattle.vocabulary.specs.declared.Action.TheVariants.{
@@ -47,8 +47,8 @@ request e a = Some (record { transaction = e; action = a })
 -- rollback step
 abbrev pub number_action : NumberWord → Action
 number_action Begin = begin
-number_action Min = call true min
-number_action Take = call true take
+number_action Min = call (Some min)
+number_action Take = call (Some take)
 number_action Commit = commit
 number_action Undo = abort
 number_action Back = roll_back
@@ -60,11 +60,12 @@ cue_call Remove k = remove k
 cue_call Has k = has k
 cue_call Push k = push k
 
--- a call on the cue of these numbers
+-- a call on the cue of these numbers, if they are in range
 abbrev pub on_cue_of : CueNumbers → (ℕ → Call) → Action
 on_cue_of n c =
-    call (in_range n.time n.«module» n.pin)
-    (c (key_of (record { time = n.time; «module» = n.«module»; pin = n.pin })))
+    call (if in_range n.time n.«module» n.pin
+    then Some (c (key_of (record { time = n.time; «module» = n.«module»; pin = n.pin })))
+    else None)
 
 -- the request of a step; a line that is no step makes none
 abbrev pub request_of : Option Step → Option Request
@@ -87,21 +88,22 @@ is_begin begin = true
 is_begin commit = false
 is_begin abort = false
 is_begin roll_back = false
-is_begin (call b c) = false
+is_begin (call c) = false
 
 abbrev pub is_roll_back : Action → Bool
 is_roll_back begin = false
 is_roll_back commit = false
 is_roll_back abort = false
 is_roll_back roll_back = true
-is_roll_back (call b c) = false
+is_roll_back (call c) = false
 
 abbrev pub cue_in_range : Action → Bool
 cue_in_range begin = true
 cue_in_range commit = true
 cue_in_range abort = true
 cue_in_range roll_back = true
-cue_in_range (call b c) = b
+cue_in_range (call None) = false
+cue_in_range (call (Some c)) = true
 
 -- a row that is met where the test says so
 abbrev pub when : Bool → Refusal → Option Refusal
@@ -131,7 +133,8 @@ lock_rows d e begin = []
 lock_rows d e commit = []
 lock_rows d e abort = []
 lock_rows d e roll_back = []
-lock_rows d e (call b c) = call_rows d e c
+lock_rows d e (call None) = []
+lock_rows d e (call (Some c)) = call_rows d e c
 
 -- the rows from 2 on
 abbrev pub rows_of : Store → ℕ → Action → List (Option Refusal)
@@ -140,7 +143,7 @@ rows_of d e a =
     when (not (valid e)) TransactionOutOfRange  -- 2: edit number not 1 to 8
     ∷ when (is_begin a && not (is_closed s)) AlreadyBegun  -- 3: begin on an unclosed edit
     ∷ when (not (is_begin a) && is_closed s) NotBegun  -- 4: other step on a closed edit
-    ∷ when (not (is_begin a) && not (is_roll_back a) && is_aborting s) IsAborting  -- 5: call, commit, undo when unwinding
+    ∷ when (not (is_begin a) && not (is_roll_back a) && is_aborting s) IsAborting  -- 5: call, commit, undo if unwinding
     ∷ when (is_roll_back a && not (is_aborting s)) NotAborting  -- 6: back on an edit not unwinding
     ∷ when (not (cue_in_range a)) CueOutOfRange  -- 7: cue number out of range
     ∷ lock_rows d e a

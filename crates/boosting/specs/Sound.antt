@@ -1,5 +1,5 @@
 -- What opening and stepping keep of a store: order, ranges and room. Assumes nothing.
-use Rattle.std.specs.Prelude.{ℕ, Option, Some, None, ◌≤◌, ◌≡◌, true, false, List, [], ◌∷◌, length}
+use Rattle.std.specs.Prelude.{ℕ, Option, Some, None, ◌≤◌, ◌≡◌, false, List, [], ◌∷◌, length}
 use Rattle.cues.specs.Cue.{CueKey}
 use Rattle.tables.specs.Table.{Ordered, member_of}
 use Rattle.scripts.specs.Theorems.{AllCues}
@@ -57,13 +57,14 @@ CallKey (push k) = CueKey k
 CallKey min = Unit {0}
 CallKey take = Unit {0}
 
--- a call whose cue's numbers are in range has the key of a cue
+-- a call that is asked for has the key of a cue
 abbrev pub ActionKey : Action → Type 0
 ActionKey begin = Unit {0}
 ActionKey commit = Unit {0}
 ActionKey abort = Unit {0}
 ActionKey roll_back = Unit {0}
-ActionKey (call b c) = b ≡ true → CallKey c
+ActionKey (call None) = Unit {0}
+ActionKey (call (Some c)) = CallKey c
 
 -- what stepping asks of a request
 abbrev pub RequestKey : Option Request → Type 0

@@ -1,6 +1,7 @@
 -- One step on a raw line: refused with nothing changed, or accepted and done. Assumes nothing.
 use Rattle.std.specs.Prelude.{ℕ, List, [], ◌∷◌, length, Option, None, Some}
 use Rattle.refusals.specs.declared.Refusal.{Refusal}
+use Rattle.refusals.specs.declared.Refusal.TheVariants.{CueOutOfRange}
 use Rattle.refusals.specs.declared.Refusal.TheVariants.{Malformed as MalformedLine}
 use Rattle.steps.specs.Step.{step_of}
 use Rattle.answers.specs.declared.Answer.{Answer}
@@ -63,17 +64,18 @@ undo_newest d e (n ∷ log) = record {
 abbrev pub aborted : Transaction → Transaction
 aborted t = record { standing = aborting; locks = t.locks; log = t.log }
 
--- what an accepted step does
+-- a refused step changes nothing
+abbrev pub refuse : Store → Refusal → Out
+refuse d r = record { store = d; answer = Refused r }
+
+-- what an accepted step does; no step is accepted whose cue is out of range
 unfoldable pub perform : Store → ℕ → Action → Out
 perform d e begin = record { store = put d d.state e open_transaction; answer = Ok }
 perform d e commit = record { store = put d d.state e closed_transaction; answer = Ok }
 perform d e abort = record { store = put d d.state e (aborted (transaction d e)); answer = Ok }
 perform d e roll_back = undo_newest d e (transaction d e).log
-perform d e (call b c) = accept d e c
-
--- a refused step changes nothing
-abbrev pub refuse : Store → Refusal → Out
-refuse d r = record { store = d; answer = Refused r }
+perform d e (call None) = refuse d CueOutOfRange
+perform d e (call (Some c)) = accept d e c
 
 -- a step that meets no row is accepted
 abbrev pub decided : Option Refusal → Store → ℕ → Action → Out

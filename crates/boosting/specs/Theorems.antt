@@ -1,30 +1,7 @@
 -- The three terms of acceptance, what stepping keeps, and the lock listing, as theorems about the model; proved in
 -- `proofs/Theorems.antt`. Assumes nothing.
-use Rattle.std.specs.Prelude.{
-  ℕ,
-  suc,
-  ◌≤◌,
-  ◌<◌,
-  max,
-  ◌≡◌,
-  Bool,
-  true,
-  false,
-  if◌then◌else◌,
-  not,
-  ◌&&◌,
-  ◌||◌,
-  List,
-  [],
-  ◌∷◌,
-  ◌⊎◌,
-  ◌↔◌,
-  nat_eq,
-  length,
-  Option,
-  None,
-  Some,
-}
+use Rattle.std.specs.Prelude.{ℕ, suc, ◌≤◌, ◌<◌, max, ◌≡◌, true, false, if◌then◌else◌, not, ◌&&◌, ◌||◌}
+use Rattle.std.specs.Prelude.{List, [], ◌∷◌, ◌⊎◌, ◌↔◌, nat_eq, length, Option, None, Some}
 use Rattle.refusals.specs.declared.Refusal.{Refusal}
 use Rattle.refusals.specs.declared.Refusal.TheVariants.{Blocked}
 use Rattle.refusals.specs.declared.Refusal.TheVariants.{Malformed as MalformedLine}
@@ -162,7 +139,7 @@ pub record InTheWay (d : Store) (e : ℕ) (k : Lock) (f : ℕ) : Type 0 where
 abbrev pub BlockedExactly : Type 0
 BlockedExactly =
     (d : Store) (e f : ℕ) (c : Call) → Sound d → valid e ≡ true → (transaction d e).standing ≡ «open»
-    → ((step_on d (request e (call true c))).answer ≡ Refused (Blocked f)) ↔ InTheWay d e (lock_of c) f
+    → ((step_on d (request e (call (Some c)))).answer ≡ Refused (Blocked f)) ↔ InTheWay d e (lock_of c) f
 
 -- an accepted call answers and does what the plain operation does, holds its lock, notes its entry, and touches nothing
 -- else
@@ -177,8 +154,8 @@ pub record Done (d : Store) (e : ℕ) (c : Call) (o : Out) : Type 0 where
 
 abbrev pub AcceptedCallsDo : Type 0
 AcceptedCallsDo =
-    (d : Store) (e : ℕ) (b : Bool) (c : Call) → Sound d → refusal_of d (request e (call b c)) ≡ None
-    → Done d e c (step_on d (request e (call b c)))
+    (d : Store) (e : ℕ) (c : Call) → Sound d → refusal_of d (request e (call (Some c))) ≡ None
+    → Done d e c (step_on d (request e (call (Some c))))
 
 -- how often a cue stands in a collection
 unfoldable pub count_of : ℕ → List ℕ → ℕ

@@ -59,8 +59,8 @@ pub enum Action {
     Commit,
     Abort,
     RollBack,
-    // A call, with whether its cue's numbers are in range.
-    OnObject(bool, Call),
+    // A call; none where its cue's numbers are out of range.
+    OnObject(Option<Call>),
 }
 
 // What a step line asks for: the transaction's number, whatever its range, and an action. A malformed line asks none.
