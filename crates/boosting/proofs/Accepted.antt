@@ -75,7 +75,7 @@ asks begin = closed
 asks commit = «open»
 asks abort = «open»
 asks roll_back = aborting
-asks (call b c) = «open»
+asks (call c) = «open»
 
 -- rows 3 to 6 leave no other
 one_standing : (a : Action) (s : Standing) → (is_begin a && not (is_closed s)) ≡ false
@@ -93,9 +93,9 @@ one_standing abort aborting h i j k = cc
 one_standing roll_back closed h i j k = cc
 one_standing roll_back «open» h i j k = cc
 one_standing roll_back aborting h i j k = refl
-one_standing (call b c) closed h i j k = cc
-one_standing (call b c) «open» h i j k = refl
-one_standing (call b c) aborting h i j k = cc
+one_standing (call c) closed h i j k = cc
+one_standing (call c) «open» h i j k = refl
+one_standing (call c) aborting h i j k = cc
 
 pub accepted_standing : (d : Store) (e : ℕ) (a : Action) → Accepts d e a → (transaction d e).standing ≡ asks a
 accepted_standing d e a h =
@@ -103,21 +103,22 @@ accepted_standing d e a h =
     one_standing a (transaction d e).standing (when-none _ _ r.1.0) (when-none _ _ r.1.1.0)
     (when-none _ _ r.1.1.1.0) (when-none _ _ r.1.1.1.1.0)
 
--- what an accepted call found: its cue in range, no conflict, and room
-pub record CallAccepted (d : Store) (e : ℕ) (b : Bool) (c : Call) : Type 0 where
-  pub in_range : b ≡ true
+-- an accepted call has a cue in range
+pub no_call : (d : Store) (e : ℕ) {P : Type 0} → Accepts d e (call None) → P
+no_call d e h = absurd (mathlib.Core.Bool.true≢false (when-none _ _ (rows_of_lem d e (call None) h).1.1.1.1.1.0))
+
+-- what an accepted call found: no conflict, and room
+pub record CallAccepted (d : Store) (e : ℕ) (c : Call) : Type 0 where
   pub free : blocker e (lock_of c) 1 d.transactions ≡ None
   pub locks : locks_full (lock_of c) (transaction d e).locks ≡ false
   pub log : log_full (entry_of c (reply c d.state)) (transaction d e).log ≡ false
   pub script : script_full (entry_of c (reply c d.state)) (reserved d) ≡ false
   pub queue : queue_full (entry_of c (reply c d.state)) (queue_slots d) ≡ false
 
-pub accepted_call : (d : Store) (e : ℕ) (b : Bool) (c : Call) → Accepts d e (call b c) → CallAccepted d e b c
-accepted_call d e b c h =
-    let r = (rows_of_lem d e (call b c) h).1.1.1.1.1 in
-    let rest = r.1 in
+pub accepted_call : (d : Store) (e : ℕ) (c : Call) → Accepts d e (call (Some c)) → CallAccepted d e c
+accepted_call d e c h =
+    let rest = (rows_of_lem d e (call (Some c)) h).1.1.1.1.1.1 in
     record {
-      in_range = not-false b (when-none (not b) _ r.0);
       free = free_none (blocker e (lock_of c) 1 d.transactions) rest.0;
       locks = when-none _ _ rest.1.0;
       log = when-none _ _ rest.1.1.0;

@@ -143,7 +143,7 @@ rest_of_rows f false false false false h = mathlib.Core.Bool.true≢false (cc)
 
 -- a call that passes the earlier checks is left to its own rows
 call_rows_lem : (d : Store) (e : ℕ) (c : Call) → valid e ≡ true → (transaction d e).standing ≡ «open»
-    → refusal_of d (request e (call true c)) ≡ first_met (call_rows d e c)
+    → refusal_of d (request e (call (Some c))) ≡ first_met (call_rows d e c)
 unfolding refusal_of first_met
 call_rows_lem d e c v s = rw (v, s)
 
@@ -161,7 +161,7 @@ module _ (f : ℕ) (rows : List (Option Refusal)) where
   row_8_meets (Some g) h = cc
 
 module _ (d : Store) (e f : ℕ) (c : Call) (v : valid e ≡ true) (s : (transaction d e).standing ≡ «open») where
-  told_to_wait : (step_on d (request e (call true c))).answer ≡ Refused (Blocked f)
+  told_to_wait : (step_on d (request e (call (Some c)))).answer ≡ Refused (Blocked f)
       → blocker e (lock_of c) 1 d.transactions ≡ Some f
   told_to_wait h =
       let t = transaction d e in
@@ -169,12 +169,12 @@ module _ (d : Store) (e f : ℕ) (c : Call) (v : valid e ≡ true) (s : (transac
       row_8_met f _ (blocker e (lock_of c) 1 d.transactions)
       (rest_of_rows f (locks_full (lock_of c) t.locks) (log_full n t.log) (script_full n (reserved d))
       (queue_full n (queue_slots d)))
-      (sym (call_rows_lem d e c v s) ∙ (refused_exactly d (request e (call true c)) (Blocked f)).0 h)
+      (sym (call_rows_lem d e c v s) ∙ (refused_exactly d (request e (call (Some c))) (Blocked f)).0 h)
 
   must_wait : blocker e (lock_of c) 1 d.transactions ≡ Some f
-      → (step_on d (request e (call true c))).answer ≡ Refused (Blocked f)
+      → (step_on d (request e (call (Some c)))).answer ≡ Refused (Blocked f)
   must_wait h =
-      (refused_exactly d (request e (call true c)) (Blocked f)).1
+      (refused_exactly d (request e (call (Some c))) (Blocked f)).1
       (call_rows_lem d e c v s ∙ row_8_meets f _ (blocker e (lock_of c) 1 d.transactions) h)
 
 -- ---- the one in the way is unclosed
@@ -248,5 +248,5 @@ does d e c n v =
 
 pub accepted_calls_do : AcceptedCallsDo
 unfolding perform
-accepted_calls_do d e b c w h =
-    rw (step_accepted d e (call b c) h) (does d e c w.eight (accepted_valid d e (call b c) h))
+accepted_calls_do d e c w h =
+    rw (step_accepted d e (call (Some c)) h) (does d e c w.eight (accepted_valid d e (call (Some c)) h))

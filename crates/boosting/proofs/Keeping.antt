@@ -532,10 +532,10 @@ queue_with take s log others f h = go s.queue h
     go [] h = omega arith
     go (k ∷ q) h = omega arith
 
-pub call_sound : (d : Store) (e : ℕ) (b : Bool) (c : Call) → Sound d → valid e ≡ true → CallKey c → CallAccepted d e b c
+pub call_sound : (d : Store) (e : ℕ) (c : Call) → Sound d → valid e ≡ true → CallKey c → CallAccepted d e c
     → Sound (accept d e c).store
 unfolding accept
-call_sound d e b c v h k g =
+call_sound d e c v h k g =
     let t = transaction d e in
     let u = transaction-Sound d e v in
     let w = state_of_lem d v in

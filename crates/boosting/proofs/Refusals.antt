@@ -63,20 +63,21 @@ use Rattle.boosting.specs.Theorems.{
   AcceptedExactly,
 }
 use Rattle.boosting.proofs.ObjectLaws.{reply_not_refused}
-use Rattle.boosting.proofs.Accepted.{malformed_refused, step_refused, step_accepted}
+use Rattle.boosting.proofs.Accepted.{Accepts, no_call, malformed_refused, step_refused, step_accepted}
 
 -- what is performed is not answered by a refusal
 undo_accepted : (d : Store) (e : ℕ) (log : List Entry) → is_refused (undo_newest d e log).answer ≡ false
 undo_accepted d e [] = refl
 undo_accepted d e (n ∷ log) = refl
 
-pub perform_accepted : (d : Store) (e : ℕ) (a : Action) → is_refused (perform d e a).answer ≡ false
+pub perform_accepted : (d : Store) (e : ℕ) (a : Action) → Accepts d e a → is_refused (perform d e a).answer ≡ false
 unfolding perform accept
-perform_accepted d e begin = refl
-perform_accepted d e commit = refl
-perform_accepted d e abort = refl
-perform_accepted d e roll_back = rw undo_accepted
-perform_accepted d e (call b c) = reply_not_refused (reply c d.state)
+perform_accepted d e begin h = refl
+perform_accepted d e commit h = refl
+perform_accepted d e abort h = refl
+perform_accepted d e roll_back h = rw undo_accepted
+perform_accepted d e (call None) h = no_call d e h
+perform_accepted d e (call (Some c)) h = reply_not_refused (reply c d.state)
 
 -- a step is answered by no refusal exactly when it meets no row
 passed : (d : Store) (q : Option Request) → is_refused (step_on d q).answer ≡ false → refusal_of d q ≡ None
@@ -89,7 +90,7 @@ passed d q h = go (refusal_of d q) refl
 passes : (d : Store) (q : Option Request) → refusal_of d q ≡ None → is_refused (step_on d q).answer ≡ false
 passes d None h = cc (malformed_refused d)
 passes d (Some q) h =
-    rw (step_accepted d q.transaction q.action h) (perform_accepted d q.transaction q.action)
+    rw (step_accepted d q.transaction q.action h) (perform_accepted d q.transaction q.action h)
 
 pub accepted_exactly : AcceptedExactly
 accepted_exactly d q = (passed d q, passes d q)
@@ -178,7 +179,8 @@ call_well_formed d e begin = no_rows
 call_well_formed d e commit = no_rows
 call_well_formed d e abort = no_rows
 call_well_formed d e roll_back = no_rows
-call_well_formed d e (call b c) =
+call_well_formed d e (call None) = no_rows
+call_well_formed d e (call (Some c)) =
     let t = transaction d e in
     let n = entry_of c (reply c d.state) in
     over_8 _

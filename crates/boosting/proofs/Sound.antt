@@ -3,12 +3,12 @@
 use Prim.Native.Nat.{ℕ, zero, suc, ◌≤◌, max}
 use mathlib.Core.Path.{◌≡◌, refl, ap, ◌∙◌}
 use mathlib.Core.List.{List, [], ◌∷◌}
-use Rattle.std.specs.Prelude.{Option, None, Some}
+use Rattle.std.specs.Prelude.{Bool, true, false, if◌then◌else◌, Option, None, Some}
 use native.Mathlib.Nat.{suc-max-suc, zero-max}
 use native.Mathlib.Omega.{arith}
 use lib.ListN.{length, replicate}
 use Rattle.refusals.specs.declared.Refusal.{Refusal}
-use Rattle.cues.specs.Cue.{CueKey}
+use Rattle.cues.specs.Cue.{in_range, key_of, CueKey}
 use Rattle.cues.proofs.Theorems.{key_is_cue_key}
 use Rattle.steps.specs.declared.reading.Step.{Step}
 use Rattle.steps.specs.declared.reading.Step.TheVariants.{WithNumber, WithCue}
@@ -39,7 +39,7 @@ use Rattle.boosting.specs.Rows.{
 use Rattle.boosting.specs.Step.{perform, decided, step_on, step_line}
 use Rattle.boosting.specs.Run.{Run, advance, run_from}
 use Rattle.boosting.specs.Recovery.{roll_backs, recover_one, recover}
-use Rattle.boosting.specs.Sound.{AllSound, Sound, CallKey, RequestKey}
+use Rattle.boosting.specs.Sound.{AllSound, Sound, CallKey, ActionKey, RequestKey}
 use Rattle.boosting.specs.Theorems.{
   OpenedIsSound,
   SteppingKeepsSound,
@@ -86,8 +86,8 @@ opened_is_sound text =
 
 number_key : (w : NumberWord) (e : ℕ) → RequestKey (request e (number_action w))
 number_key Begin e = tt
-number_key Min e = λ h. tt
-number_key Take e = λ h. tt
+number_key Min e = tt
+number_key Take e = tt
 number_key Commit e = tt
 number_key Undo e = tt
 number_key Back e = tt
@@ -101,7 +101,12 @@ cue_call_key Push k h = h
 
 pub request_key : (s : Option Step) → RequestKey (request_of s)
 request_key (Some (WithNumber w e)) = number_key w e
-request_key (Some (WithCue w e n)) = λ h. cue_call_key w _ (key_is_cue_key _ h)
+request_key (Some (WithCue w e n)) = go (in_range n.time n.«module» n.pin) refl
+  where
+    go : (b : Bool) → in_range n.time n.«module» n.pin ≡ b
+        → ActionKey (call (if b then Some (cue_call w (key_of (record { time = n.time; «module» = n.«module»; pin = n.pin }))) else None))
+    go true h = cue_call_key w _ (key_is_cue_key _ h)
+    go false h = tt
 request_key None = tt
 
 perform-Sound : (d : Store) (e : ℕ) (a : Action) → Sound d → RequestKey (request e a)
@@ -111,9 +116,9 @@ perform-Sound d e begin v k h = begin_sound d e v (accepted_valid d e begin h)
 perform-Sound d e commit v k h = close_sound d e v (accepted_valid d e commit h)
 perform-Sound d e abort v k h = abort_sound d e v (accepted_valid d e abort h)
 perform-Sound d e roll_back v k h = undo_sound d e (transaction d e).log v (accepted_valid d e roll_back h) refl
-perform-Sound d e (call b c) v k h =
-    let g = accepted_call d e b c h in
-    call_sound d e b c v (accepted_valid d e (call b c) h) (k g.in_range) g
+perform-Sound d e (call None) v k h = v
+perform-Sound d e (call (Some c)) v k h =
+    call_sound d e c v (accepted_valid d e (call (Some c)) h) k (accepted_call d e c h)
 
 -- a refused request changes nothing
 pub request_keeps_sound : (d : Store) (q : Option Request) → Sound d → RequestKey q → Sound (step_on d q).store

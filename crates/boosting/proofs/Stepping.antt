@@ -4,6 +4,7 @@ use Prim.Native.Nat.{ℕ}
 use mathlib.Core.Path.{◌≡◌, refl, sym}
 use mathlib.Core.Bool.{true}
 use mathlib.Core.List.{List, [], ◌∷◌, ◌++◌, append-nil}
+use Rattle.std.specs.Prelude.{None, Some}
 use native.Mathlib.Omega.{arith}
 use Rattle.boosting.specs.Object.{Call, State, effect, reply}
 use Rattle.boosting.specs.Undo.{Entry, entry_of, inverse, noted}
@@ -41,7 +42,7 @@ use Rattle.boosting.proofs.Trace.{
 }
 use Rattle.boosting.proofs.StoreLaws.{changed, put-state, closed-standing, open_unclosed, aborting_unclosed}
 use Rattle.boosting.proofs.Invariant.{Invariant, begin_keeps, call_keeps, commit_keeps, cut_keeps}
-use Rattle.boosting.proofs.Accepted.{Accepts, accepted_valid, accepted_standing, accepted_call}
+use Rattle.boosting.proofs.Accepted.{Accepts, accepted_valid, accepted_standing, no_call, accepted_call}
 
 aborting_not_open : (s : Standing) → s ≡ aborting → s ≡ «open» → ⊥
 aborting_not_open s p q = let z : ◌≡◌ {A = ℕ} 0 1 = cc in omega arith
@@ -123,13 +124,14 @@ module _ (start : State) (g : Good start) (d : Store) (pending : ℕ → List It
   perform_keeps abort h = abort_keeps (accepted_valid d e abort h) (accepted_standing d e abort h)
   perform_keeps roll_back h =
       undo_keeps (accepted_valid d e roll_back h) (accepted_standing d e roll_back h) (transaction d e).log refl
-  perform_keeps (call b c) h =
+  perform_keeps (call None) h = no_call d e h
+  perform_keeps (call (Some c)) h =
       let x : Transaction = record {
         standing = «open»;
         locks = hold (lock_of c) (transaction d e).locks;
         log = noted (entry_of c (reply c d.state)) (transaction d e).log;
       } in
       let s = effect c d.state in
-      let ok = accepted_valid d e (call b c) h in
+      let ok = accepted_valid d e (call (Some c)) h in
       call_keeps start g d pending settled e v (put d s e x) x (changed d s e x v.eight ok) c
-      (accepted_standing d e (call b c) h) (accepted_call d e b c h).free refl refl refl (put-state d s e x)
+      (accepted_standing d e (call (Some c)) h) (accepted_call d e c h).free refl refl refl (put-state d s e x)

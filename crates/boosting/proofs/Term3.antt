@@ -102,7 +102,8 @@ map-since {A} {B} f e (Some q) x xs = by q.action
     by commit = refl
     by abort = refl
     by roll_back = refl
-    by (call b c) = calls c (eqb q.transaction e)
+    by (call None) = refl
+    by (call (Some c)) = calls c (eqb q.transaction e)
 
 map-committed : {A B : Type 0} (f : A → B) (q : Option Request) (p : ℕ → List A) (xs : List A)
     → map f (committed q p xs) ≡ committed q (λ e. map f (p e)) (map f xs)
@@ -115,7 +116,7 @@ map-committed f (Some q) p xs = by q.action
     by commit = map-append f (p q.transaction) xs
     by abort = refl
     by roll_back = refl
-    by (call b c) = refl
+    by (call c) = refl
 
 module _ (h : Event) (past : List Event) (pending : ℕ → List Item) (settled : List Item)
     (a : Account past pending settled) where
@@ -170,7 +171,8 @@ answers_agree d f begin e xs = refl
 answers_agree d f commit e xs = refl
 answers_agree d f abort e xs = refl
 answers_agree d f roll_back e xs = refl
-answers_agree d f (call b c) e xs = refl
+answers_agree d f (call None) e xs = refl
+answers_agree d f (call (Some c)) e xs = refl
 
 module _ (start : State) (g : Good start) where
   outcome_keeps : (r : Run) → Kept start r → (line : List ℕ) (q : Option Request) → request_of (step_of line) ≡ q
@@ -194,7 +196,7 @@ module _ (start : State) (g : Good start) where
         settled = committed (request e a) k.pending k.settled;
         invariant = perform_keeps start g d k.pending k.settled e k.invariant a h;
         account = Account-accepted _ r.past k.pending k.settled k.account (request e a) w d e
-            (perform_accepted d e a) (answers_agree d e a);
+            (perform_accepted d e a h) (answers_agree d e a);
       })
 
   advance_keeps : (r : Run) → Kept start r → (line : List ℕ) → Kept start (advance r line)

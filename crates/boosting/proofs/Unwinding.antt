@@ -38,7 +38,8 @@ perform_other d e f begin n = put_other d _ e f _ n
 perform_other d e f commit n = put_other d _ e f _ n
 perform_other d e f abort n = put_other d _ e f _ n
 perform_other d e f roll_back n = rw undo_other
-perform_other d e f (call b c) n = put_other d _ e f _ n
+perform_other d e f (call None) n = refl
+perform_other d e f (call (Some c)) n = put_other d _ e f _ n
 
 -- a step that asks for an unclosed transaction leaves closed ones closed
 pub step_stays : (d : Store) (e : ℕ) (a : Action) → (asks a ≡ closed → ⊥) → (f : ℕ) → Closed d f

@@ -28,7 +28,7 @@ use Rattle.boosting.specs.Undo.{entry_of}
 use Rattle.boosting.specs.Locks.{lock_of}
 use Rattle.boosting.specs.Store.{Standing, closed, «open», aborting, Store, valid, transaction, blocker}
 use Rattle.boosting.specs.Room.{reserved, queue_slots, locks_full, log_full, script_full, queue_full}
--- what a step asks of a transaction: a call, or none where its cue's numbers are out of range, is one action
+-- what a step asks of a transaction; `call None` is a call on a cue whose numbers are out of range
 pub use Rattle.vocabulary.specs.declared.Action.{Action}
 pub use Rattle.vocabulary.specs.declared.Request.{Request}
 pub use Rattle.vocabulary.specs.declared.Action.TheVariants.{

@@ -1,5 +1,5 @@
 -- What opening and stepping keep of a store: order, ranges and room. Assumes nothing.
-use Rattle.std.specs.Prelude.{ℕ, Option, Some, None, ◌≤◌, ◌≡◌, true, false, List, [], ◌∷◌, length}
+use Rattle.std.specs.Prelude.{ℕ, Option, Some, None, ◌≤◌, ◌≡◌, false, List, [], ◌∷◌, length}
 use Rattle.cues.specs.Cue.{CueKey}
 use Rattle.tables.specs.Table.{Ordered, member_of}
 use Rattle.scripts.specs.Theorems.{AllCues}

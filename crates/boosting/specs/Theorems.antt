@@ -1,30 +1,6 @@
 -- The three terms of acceptance, what stepping keeps, and the lock listing, as theorems about the model; proved in
 -- `proofs/Theorems.antt`. Assumes nothing.
-use Rattle.std.specs.Prelude.{
-  ℕ,
-  suc,
-  ◌≤◌,
-  ◌<◌,
-  max,
-  ◌≡◌,
-  Bool,
-  true,
-  false,
-  if◌then◌else◌,
-  not,
-  ◌&&◌,
-  ◌||◌,
-  List,
-  [],
-  ◌∷◌,
-  ◌⊎◌,
-  ◌↔◌,
-  nat_eq,
-  length,
-  Option,
-  None,
-  Some,
-}
+use Rattle.std.specs.Prelude.{ℕ, suc, ◌≤◌, ◌<◌, max, ◌≡◌, true, false, if◌then◌else◌, not, ◌&&◌, ◌||◌, List, [], ◌∷◌, ◌⊎◌, ◌↔◌, nat_eq, length, Option, None, Some}
 use Rattle.refusals.specs.declared.Refusal.{Refusal}
 use Rattle.refusals.specs.declared.Refusal.TheVariants.{Blocked}
 use Rattle.refusals.specs.declared.Refusal.TheVariants.{Malformed as MalformedLine}
