@@ -34,9 +34,10 @@ impl TryFrom<u64> for TransactionNumber {
 
     #[inline(always)]
     fn try_from(number: u64) -> Result<TransactionNumber, Refusal> {
-        if number < 1 || 8 < number {
+        if !(1..=8).contains(&number) {
             return Err(Refusal::TransactionOutOfRange);
         }
+        // By `as`: a `u64` has no `From` into `usize`, and the test has made it small.
         Ok(TransactionNumber {
             number: number as usize,
         })
