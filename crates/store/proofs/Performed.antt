@@ -43,8 +43,11 @@ module _ (s : State) (ts : List Transaction) (i : ℕ) (h : i < 8) (v : Sound (s
     pub stands : (y : Standing) → (transaction d e).standing ≡ y → (get_or ts i x).standing ≡ y
     stands y q = ap (λ (t : Transaction). t.standing) (sym there) ∙ by_value (λ d e. (transaction d e).standing) _ _ _ _ is p ∙ q
 
-    pub standing_is : (y z : Standing) → z ≡ (get_or ts i x).standing → z ≡ y → (transaction d e).standing ≡ y
-    standing_is y z r q = sym (stands _ refl) ∙ sym r ∙ q
+    pub standing_is : (z : Standing) → z ≡ (get_or ts i x).standing → z ≡ (transaction d e).standing
+    standing_is z r = r ∙ stands _ refl
+
+    pub number_is : valid e ≡ true
+    number_is = sym (by_value (λ d e. valid e) d d i e refl p) ∙ place_valid i h
 
     pub log_is : (log : List Entry) → log ≡ (get_or ts i x).log → log ≡ (transaction d e).log
     log_is log r = r ∙ ap (λ (t : Transaction). t.log) (sym there) ∙ by_value (λ d e. (transaction d e).log) _ _ _ _ is p

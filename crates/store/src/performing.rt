@@ -1,7 +1,7 @@
-// What an accepted step does to the store, where it stands, and what it is answered.
-ghost use Rattle.std.specs.Prelude.{◌≡◌, Some, None};
+// What an accepted step does to the store, where it stands, and what it is answered; and how a transaction stands.
+ghost use Rattle.std.specs.Prelude.{◌≡◌, true, Some, None};
 ghost use Rattle.boosting.specs.Object.{reply as reply_of};
-ghost use Rattle.boosting.specs.Store.{transaction, aborting};
+ghost use Rattle.boosting.specs.Store.{transaction, valid, aborting};
 ghost use Rattle.boosting.specs.Rows.{begin, commit, abort, roll_back, call as on_object, refusal_of, request};
 ghost use Rattle.boosting.specs.Sound.{CallKey};
 ghost use Rattle.boosting.specs.Step.{perform};
@@ -10,10 +10,19 @@ use crate::Store;
 use answers::Answer;
 use shared_object::{answer_of, entry_of, lock_of};
 use transactions::TransactionNumber;
-use vocabulary::{Call, Reply};
+use vocabulary::{Call, Reply, Standing};
 
 #[tactic(auto, unfolding(boosting::specs::Step::perform))]
 impl Store {
+    // How transaction e stands.
+    #[inline(always)]
+    pub(crate) fn standing(&self, e: TransactionNumber) -> Standing
+        ensures value { result ≡ (transaction self.now e).standing }
+        ensures in_range { valid e ≡ true }
+    {
+        self.transactions[e.index()].standing()
+    }
+
     // Transaction e opens.
     pub(crate) fn begin(&mut self, e: TransactionNumber) -> Answer
         ensures store { self.new ≡ (perform self.old e begin).store }

@@ -13,7 +13,7 @@ impl Store {
     fn abort_open(&mut self, e: TransactionNumber)
         ensures { self.new ≡ (step_on self.old (request e abort)).store }
     {
-        match self.transactions[e.index()].standing() {
+        match self.standing(e) {
             Standing::Closed => {}
             Standing::Open => {
                 self.abort(e);
@@ -26,7 +26,7 @@ impl Store {
     fn step_back(&mut self, e: TransactionNumber)
         ensures { self.new ≡ (step_on self.old (request e roll_back)).store }
     {
-        match self.transactions[e.index()].standing() {
+        match self.standing(e) {
             Standing::Closed => {}
             Standing::Open => {}
             Standing::Aborting => {

@@ -84,13 +84,14 @@ impl Store {
 
     // One request: turned away with nothing changed, or accepted and done. The rows 2 to 7 of the table stand here.
     #[inline(always)]
+    #[tactic(auto, using(crate::proofs::Rows::row_rules))]
     fn try_request(&mut self, request: Request) -> Result<Answer, Refusal>
         requires { RequestKey (Some request) }
         ensures store { self.new ≡ (step_on self.old (Some request)).store }
         ensures answer { answered result ≡ (step_on self.old (Some request)).answer }
     {
         let e = TransactionNumber::try_from(request.transaction)?;
-        match (self.transactions[e.index()].standing(), request.action) {
+        match (self.standing(e), request.action) {
             (Standing::Closed, Action::Begin) => Ok(self.begin(e)),
             (_, Action::Begin) => Err(Refusal::AlreadyBegun),
             (Standing::Closed, _) => Err(Refusal::NotBegun),
