@@ -1,4 +1,5 @@
--- Laws of what a step does to the store, and of a script that is opened.
+-- Laws of what a step does to the store, of recovery, and of a script that is opened.
 pub mod Opened
 pub mod Performed
+pub mod Recovering
 pub mod Rows

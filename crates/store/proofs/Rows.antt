@@ -1,24 +1,34 @@
 -- The rows 2 to 7, by how the request's transaction stands and by the action; and what the rows 8 to 12 say of a call.
 -- Assumes nothing.
-use Rattle.std.proofs.Common.{◌≡◌, ℕ, zero, suc, Bool, true, false, List, refl, sym, ap, ◌∙◌, arith}
+use Rattle.std.proofs.Common.{◌≡◌, ℕ, zero, suc, Bool, true, false, List, refl, sym, ap, subst, ◌∙◌, arith}
 use Rattle.std.specs.Prelude.{Option, None, Some, Ok, Err, nat_le}
 use borrow.Author.Tests.{leb-true, leb-false}
 use Rattle.std.proofs.lemmas.List.{get_or_past}
 use Rattle.tables.proofs.Laws.{split}
 use Rattle.refusals.specs.declared.Refusal.{Refusal}
 use Rattle.refusals.specs.declared.Refusal.TheVariants.{TransactionOutOfRange, AlreadyBegun, NotBegun, NotAborting, CueOutOfRange}
-use Rattle.refusals.specs.declared.Refusal.TheVariants.{Aborting as IsAborting}
+use Rattle.refusals.specs.declared.Refusal.TheVariants.{Malformed as MalformedLine, Aborting as IsAborting}
 use Rattle.answers.specs.declared.Answer.{Answer}
 use Rattle.answers.specs.declared.Answer.TheVariants.{Refused}
+use Rattle.steps.specs.declared.reading.Step.{Step}
 use Rattle.boosting.specs.Object.{Call, Reply, State, reply}
 use Rattle.boosting.specs.Store.{Standing, closed, «open», aborting, Transaction, closed_transaction, Store, valid, transaction}
-use Rattle.boosting.specs.Rows.{Action, begin, commit, abort, roll_back, call, Request, request, call_rows, first_met, refusal_of}
+use Rattle.boosting.specs.Rows.{Action, begin, commit, abort, roll_back, call, Request, request, call_rows, request_of, first_met, refusal_of}
 use Rattle.boosting.specs.Step.{Out, perform, refuse, step_on}
-use Rattle.boosting.specs.Sound.{Sound}
+use Rattle.boosting.specs.Sound.{Sound, ActionKey, RequestKey}
 use Rattle.boosting.proofs.Accepted.{step_refused, step_accepted}
+use Rattle.boosting.proofs.Sound.{request_key}
 use Rattle.boosting.proofs.StoreLaws.{range_valid, open_unclosed}
 use Rattle.admission.specs.Answers.{admitted, store_of}
 use Rattle.admission.proofs.Rows.{admitted-Ok, admitted-Err}
+
+-- ---- what is asked: a line that is no step is refused, and a call that a step asks for has the key of a cue
+pub malformed : (d : Store) (s : Option Step) → s ≡ None → step_on d (request_of s) ≡ refuse d MalformedLine
+unfolding step_on
+malformed d s p = rw p refl
+
+pub asked_key : (q : Request) (s : Option Step) → Some q ≡ request_of s → ActionKey q.action
+asked_key q s p = subst RequestKey (sym p) (request_key s)
 
 -- ---- rows 2 to 7
 module _ (d : Store) (q : Request) where

@@ -10,6 +10,7 @@ use vocabulary::Standing;
 
 impl Store {
     // An open transaction is aborting from now on; any other refuses, and nothing changes.
+    #[tactic(auto, using(crate::proofs::Rows::row_rules))]
     fn abort_open(&mut self, e: TransactionNumber)
         ensures { self.new ≡ (step_on self.old (request e abort)).store }
     {
@@ -23,6 +24,7 @@ impl Store {
     }
 
     // One entry of an aborting transaction is undone; any other refuses, and nothing changes.
+    #[tactic(auto, using(crate::proofs::Rows::row_rules))]
     fn step_back(&mut self, e: TransactionNumber)
         ensures { self.new ≡ (step_on self.old (request e roll_back)).store }
     {
@@ -36,6 +38,7 @@ impl Store {
     }
 
     // So many rollback steps.
+    #[tactic(auto, using(crate::proofs::Recovering::steps_rules))]
     fn roll_backs(&mut self, e: TransactionNumber, steps: usize)
         ensures { self.new ≡ roll_backs steps self.old e }
     {
@@ -54,6 +57,7 @@ impl Store {
     }
 
     // Every unclosed transaction is undone and closed.
+    #[tactic(auto, using(crate::proofs::Recovering::recovery_rules))]
     pub fn recover(&mut self)
         ensures { self.new ≡ recover self.old rising }
     {

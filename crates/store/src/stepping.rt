@@ -106,6 +106,7 @@ impl Store {
     }
 
     // One step that has been read, or none where a line is no step: refused with nothing changed, or accepted and done.
+    #[tactic(auto, using(crate::proofs::Rows::malformed), unfolding(boosting::specs::Step::step_on))]
     pub fn execute(&mut self, step: Option<Step>) -> Answer
         ensures store { self.new ≡ (step_on self.old (request_of step)).store }
         ensures answer { result ≡ (step_on self.old (request_of step)).answer }
