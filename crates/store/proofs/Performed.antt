@@ -1,6 +1,6 @@
 -- What an accepted step does where the store stands: a state s, and the transaction t of the eight put at place i. The
 -- answers find these laws by `search`, and their premises among what the calls ensure. Assumes nothing.
-use Rattle.std.proofs.Common.{◌≡◌, ℕ, zero, suc, ◌+◌, ◌<◌, ◌≤◌, Bool, true, false, List, [], ◌∷◌, length, get_or, set, refl, sym, ap, subst, ◌∙◌, arith, add-one}
+use Rattle.std.proofs.Common.{◌≡◌, ℕ, suc, ◌+◌, ◌<◌, true, false, List, [], ◌∷◌, length, get_or, set, refl, sym, ap, subst, ◌∙◌, arith, add-one}
 use lib.Seq.{get_or-set_same}
 use Rattle.std.proofs.lemmas.List.{get_or_default}
 use Rattle.std.specs.Prelude.{Option, None, Some}
@@ -10,9 +10,9 @@ use Rattle.boosting.specs.Object.{Call, Reply, State, effect, reply, answer_of}
 use Rattle.boosting.specs.Undo.{Entry, entry_of, inverse, noted}
 use Rattle.boosting.specs.Locks.{Lock, Locks, lock_of, hold}
 use Rattle.boosting.specs.Room.{locks_full, log_full}
-use Rattle.boosting.specs.Store.{Standing, «open», aborting, Transaction, closed_transaction, open_transaction, Store, valid, transaction, put}
+use Rattle.boosting.specs.Store.{Standing, «open», Transaction, closed_transaction, open_transaction, Store, valid, transaction, put}
 use Rattle.boosting.specs.Rows.{Action, begin, commit, abort, roll_back, call, request, refusal_of}
-use Rattle.boosting.specs.Step.{Out, accept, unwound, undo_newest, aborted, perform}
+use Rattle.boosting.specs.Step.{accept, unwound, undo_newest, aborted, perform}
 use Rattle.boosting.specs.Sound.{Sound, CallKey}
 use Rattle.boosting.proofs.Accepted.{Accepts, accepted_valid, accepted_standing, accepted_call}
 use Rattle.boosting.proofs.Keeping.{begin_sound, close_sound, abort_sound, undo_sound, call_sound, unwound-log}

@@ -1,6 +1,6 @@
 -- The rows 2 to 7, by how the request's transaction stands and by the action; and what the rows 8 to 12 say of a call.
 -- Assumes nothing.
-use Rattle.std.proofs.Common.{◌≡◌, ℕ, zero, suc, Bool, true, false, List, refl, sym, ap, subst, ◌∙◌, arith}
+use Rattle.std.proofs.Common.{◌≡◌, ℕ, zero, suc, true, false, List, refl, sym, ap, subst, ◌∙◌, arith}
 use Rattle.std.specs.Prelude.{Option, None, Some, Ok, Err, nat_le}
 use borrow.Author.Tests.{leb-true, leb-false}
 use Rattle.std.proofs.lemmas.List.{get_or_past}
@@ -12,7 +12,7 @@ use Rattle.answers.specs.declared.Answer.{Answer}
 use Rattle.answers.specs.declared.Answer.TheVariants.{Refused}
 use Rattle.steps.specs.declared.reading.Step.{Step}
 use Rattle.boosting.specs.Object.{Call, Reply, State, reply}
-use Rattle.boosting.specs.Store.{Standing, closed, «open», aborting, Transaction, closed_transaction, Store, valid, transaction}
+use Rattle.boosting.specs.Store.{closed, «open», aborting, Transaction, closed_transaction, Store, valid, transaction}
 use Rattle.boosting.specs.Rows.{Action, begin, commit, abort, roll_back, call, Request, request, call_rows, request_of, first_met, refusal_of}
 use Rattle.boosting.specs.Step.{Out, perform, refuse, step_on}
 use Rattle.boosting.specs.Sound.{Sound, ActionKey, RequestKey}
