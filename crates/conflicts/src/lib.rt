@@ -18,6 +18,7 @@ pub fn find_blocker(transactions: &[Transaction; 8], e: TransactionNumber, lock:
     ensures first { result ≡ blocker e lock 1 transactions.now }
     ensures in_range { IfSome result (λ f. f ≤ 8) }
 {
+    // A rule of the project fixes this form: nested loops, left by a labelled break with the one in the way.
     let blocker = 'search: {
         for (i, transaction) in transactions.iter().enumerate() {
             if i != e.index() {

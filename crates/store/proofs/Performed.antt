@@ -1,6 +1,27 @@
 -- What an accepted step does where the store stands: a state s, and the transaction t of the eight put at place i. The
 -- answers find these laws by `search`, and their premises among what the calls ensure. Assumes nothing.
-use Rattle.std.proofs.Common.{◌≡◌, ℕ, suc, ◌+◌, ◌<◌, true, false, List, [], ◌∷◌, length, get_or, set, refl, sym, ap, subst, ◌∙◌, arith, add-one}
+use Rattle.std.proofs.Common.{
+  ◌≡◌,
+  ℕ,
+  suc,
+  ◌+◌,
+  ◌<◌,
+  true,
+  false,
+  List,
+  [],
+  ◌∷◌,
+  length,
+  get_or,
+  set,
+  refl,
+  sym,
+  ap,
+  subst,
+  ◌∙◌,
+  arith,
+  add-one,
+}
 use lib.Seq.{get_or-set_same}
 use Rattle.std.proofs.lemmas.List.{get_or_default}
 use Rattle.std.specs.Prelude.{Option, None, Some}
@@ -8,11 +29,21 @@ use Rattle.answers.specs.declared.Answer.{Answer}
 use Rattle.answers.specs.declared.Answer.TheVariants.{Left}
 use Rattle.boosting.specs.Object.{Call, Reply, State, effect, reply, answer_of}
 use Rattle.boosting.specs.Undo.{Entry, entry_of, inverse, noted}
-use Rattle.boosting.specs.Locks.{Lock, Locks, lock_of, hold}
+use Rattle.boosting.specs.Locks.{Lock, lock_of, hold}
 use Rattle.boosting.specs.Room.{locks_full, log_full}
-use Rattle.boosting.specs.Store.{Standing, «open», Transaction, closed_transaction, open_transaction, Store, valid, transaction, put}
+use Rattle.boosting.specs.Store.{
+  Standing,
+  «open»,
+  Transaction,
+  closed_transaction,
+  open_transaction,
+  Store,
+  valid,
+  transaction,
+  put,
+}
 use Rattle.boosting.specs.Rows.{Action, begin, commit, abort, roll_back, call, request, refusal_of}
-use Rattle.boosting.specs.Step.{accept, unwound, undo_newest, aborted, perform}
+use Rattle.boosting.specs.Step.{Out, accept, unwound, undo_newest, aborted, perform}
 use Rattle.boosting.specs.Sound.{Sound, CallKey}
 use Rattle.boosting.proofs.Accepted.{Accepts, accepted_valid, accepted_standing, accepted_call}
 use Rattle.boosting.proofs.Keeping.{begin_sound, close_sound, abort_sound, undo_sound, call_sound, unwound-log}
@@ -41,7 +72,8 @@ module _ (s : State) (ts : List Transaction) (i : ℕ) (h : i < 8) (v : Sound (s
 
   module _ (d : Store) (e : ℕ) (is : store_of s ts ≡ d) (p : i + 1 ≡ e) where
     pub stands : (y : Standing) → (transaction d e).standing ≡ y → (get_or ts i x).standing ≡ y
-    stands y q = ap (λ (t : Transaction). t.standing) (sym there) ∙ by_value (λ d e. (transaction d e).standing) _ _ _ _ is p ∙ q
+    stands y q =
+        ap (λ (t : Transaction). t.standing) (sym there) ∙ by_value (λ d e. (transaction d e).standing) _ _ _ _ is p ∙ q
 
     pub standing_is : (z : Standing) → z ≡ (get_or ts i x).standing → z ≡ (transaction d e).standing
     standing_is z r = r ∙ stands _ refl
@@ -50,7 +82,8 @@ module _ (s : State) (ts : List Transaction) (i : ℕ) (h : i < 8) (v : Sound (s
     number_is = sym (by_value (λ d e. valid e) d d i e refl p) ∙ place_valid i h
 
     pub log_is : (log : List Entry) → log ≡ (get_or ts i x).log → log ≡ (transaction d e).log
-    log_is log r = r ∙ ap (λ (t : Transaction). t.log) (sym there) ∙ by_value (λ d e. (transaction d e).log) _ _ _ _ is p
+    log_is log r =
+        r ∙ ap (λ (t : Transaction). t.log) (sym there) ∙ by_value (λ d e. (transaction d e).log) _ _ _ _ is p
 
 -- a transaction that begins, closes, aborts
 module _ (s : State) (ts : List Transaction) (i : ℕ) (t : Transaction) where
@@ -85,7 +118,8 @@ module _ (s : State) (ts : List Transaction) (i : ℕ) (t : Transaction) where
     pub aborts : (x : Transaction) → i < 8 → Sound (store_of s ts) → t ≡ aborted (get_or ts i x)
         → store_of s (set ts i t) ≡ (perform d e abort).store
     unfolding perform put
-    aborts x h v q = did abort (ap (λ (x : Transaction). store_of s (set ts i x)) (q ∙ ap aborted (sym (there s ts i h v x))))
+    aborts x h v q =
+        did abort (ap (λ (x : Transaction). store_of s (set ts i x)) (q ∙ ap aborted (sym (there s ts i h v x))))
 
 -- a rollback step: its newest entry r is undone, and t is what is left of the transaction
 module _ (s : State) (ts : List Transaction) (i : ℕ) (t x : Transaction) (h : i < 8) (v : Sound (store_of s ts))
@@ -102,32 +136,37 @@ module _ (s : State) (ts : List Transaction) (i : ℕ) (t x : Transaction) (h : 
   left_is : t ≡ unwound (older T.log) T.locks
   left_is = u ∙ ap unwound_once (sym (there s ts i h v x))
 
-  -- what is left, by the log
-  none_left : (log : List Entry) (l : Locks) → r ≡ newest log → t ≡ unwound (older log) T.locks → r ≡ None
-      → (store_of s (set ts i t) ≡ (undo_newest D (suc i) log).store) × (Left 0 ≡ (undo_newest D (suc i) log).answer)
-  unfolding put
-  none_left [] l m w z = (ap (λ (x : Transaction). store_of s (set ts i x)) w, refl)
-  none_left (n ∷ log) l m w z = absurd (let z : ◌≡◌ {A = ℕ} 0 1 = cc in omega arith)
+  -- with m entries left
+  abbrev Rolled : State → ℕ → Out → Type 0
+  Rolled s' m o = (store_of s' (set ts i t) ≡ o.store) × (Left m ≡ o.answer)
 
-  some_left : (log : List Entry) (n : Entry) (s' : State) → r ≡ newest log → t ≡ unwound (older log) T.locks → r ≡ Some n
-      → s' ≡ inverse n s
-      → (store_of s' (set ts i t) ≡ (undo_newest D (suc i) log).store) × (Left (length t.log) ≡ (undo_newest D (suc i) log).answer)
+  -- what is left, by the log
+  none_left : (log : List Entry) → r ≡ newest log → t ≡ unwound (older log) T.locks → r ≡ None
+      → Rolled s 0 (undo_newest D (suc i) log)
+  unfolding put
+  none_left [] m w z = (ap (λ (x : Transaction). store_of s (set ts i x)) w, refl)
+  none_left (n ∷ log) m w z = absurd (let z : ◌≡◌ {A = ℕ} 0 1 = cc in omega arith)
+
+  some_left : (log : List Entry) (n : Entry) (s' : State) → r ≡ newest log → t ≡ unwound (older log) T.locks
+      → r ≡ Some n → s' ≡ inverse n s → Rolled s' (length t.log) (undo_newest D (suc i) log)
   unfolding put
   some_left [] n s' m w z k = absurd (let z : ◌≡◌ {A = ℕ} 0 1 = cc in omega arith)
   some_left (o ∷ log) n s' m w z k =
       let y : n ≡ o = cc in (
         λ j. store_of ((k ∙ ap (λ (e : Entry). inverse e s) y) j) (set ts i (w j)),
-        ap (λ (t : Transaction). Left (length t.log)) w ∙ ap (λ (l : List Entry). Left (length l)) (unwound-log log T.locks),
+        ap (λ (t : Transaction). Left (length t.log)) w
+            ∙ ap (λ (l : List Entry). Left (length l)) (unwound-log log T.locks),
       )
 
-  rolled-Sound : (s' : State) → store_of s' (set ts i t) ≡ (perform D (suc i) roll_back).store → Sound (store_of s' (set ts i t))
+  rolled-Sound : (s' : State) → store_of s' (set ts i t) ≡ (perform D (suc i) roll_back).store
+      → Sound (store_of s' (set ts i t))
   unfolding perform
   rolled-Sound s' w = subst Sound (sym w) (undo_sound D (suc i) T.log v (place_valid i h) refl)
 
   module _ (none : r ≡ None) where
-    rolled_none : (store_of s (set ts i t) ≡ (perform D (suc i) roll_back).store) × (Left 0 ≡ (perform D (suc i) roll_back).answer)
+    rolled_none : Rolled s 0 (perform D (suc i) roll_back)
     unfolding perform
-    rolled_none = none_left T.log T.locks newest_is left_is none
+    rolled_none = none_left T.log newest_is left_is none
 
     pub none-Sound : Sound (store_of s (set ts i t))
     none-Sound = rolled-Sound s rolled_none.0
@@ -140,8 +179,7 @@ module _ (s : State) (ts : List Transaction) (i : ℕ) (t x : Transaction) (h : 
       none-answer = rolled_none.1 ∙ by_value (λ d e. (perform d e roll_back).answer) _ _ _ _ is p
 
   module _ (n : Entry) (some : r ≡ Some n) where
-    rolled_some : (s' : State) → s' ≡ inverse n s
-        → (store_of s' (set ts i t) ≡ (perform D (suc i) roll_back).store) × (Left (length t.log) ≡ (perform D (suc i) roll_back).answer)
+    rolled_some : (s' : State) → s' ≡ inverse n s → Rolled s' (length t.log) (perform D (suc i) roll_back)
     unfolding perform
     rolled_some s' k = some_left T.log n s' newest_is left_is some k
 
@@ -157,16 +195,18 @@ module _ (s : State) (ts : List Transaction) (i : ℕ) (t x : Transaction) (h : 
         some-store = (rolled_some s' k).0 ∙ by_value (λ d e. (perform d e roll_back).store) _ _ _ _ is p
 
         -- the entries left are counted at the same place j
-        pub some-answer : (j : ℕ) (y : Transaction) (log : List Entry) (m : ℕ) → j + 1 ≡ e → log ≡ (get_or (set ts i t) j y).log
-            → m ≡ length log → Left m ≡ (perform d e roll_back).answer
+        pub some-answer : (j : ℕ) (y : Transaction) (log : List Entry) (m : ℕ) → j + 1 ≡ e
+            → log ≡ (get_or (set ts i t) j y).log → m ≡ length log → Left m ≡ (perform d e roll_back).answer
         some-answer j y log m o g f =
-            let same : get_or (set ts i t) j y ≡ t = (λ k. get_or (set ts i t) ((let w : j ≡ i = omega arith in w) k) y) ∙ get_or-set_same ts i t y (let n = v.eight in omega arith) in
+            let w : j ≡ i = omega arith in
+            let l : i < length ts = let n = v.eight in omega arith in
+            let same : get_or (set ts i t) j y ≡ t = rw w (get_or-set_same ts i t y l) in
             ap Left (f ∙ ap length (g ∙ ap (λ (t : Transaction). t.log) same))
             ∙ (rolled_some s' k).1 ∙ by_value (λ d e. (perform d e roll_back).answer) _ _ _ _ is p
 
 -- an accepted call
-module _ (s : State) (ts : List Transaction) (v : Sound (store_of s ts)) (d : Store) (is : store_of s ts ≡ d) (e : ℕ) (c : Call)
-    (a : refusal_of d (request e (call (Some c))) ≡ None) (k : CallKey c) where
+module _ (s : State) (ts : List Transaction) (v : Sound (store_of s ts)) (d : Store) (is : store_of s ts ≡ d) (e : ℕ)
+    (c : Call) (a : refusal_of d (request e (call (Some c))) ≡ None) (k : CallKey c) where
   accepts : Accepts (store_of s ts) e (call (Some c))
   accepts = ap (λ (d : Store). refusal_of d (request e (call (Some c)))) is ∙ a
 
@@ -179,8 +219,8 @@ module _ (s : State) (ts : List Transaction) (v : Sound (store_of s ts)) (d : St
   unfolding perform accept put
   call-room = room (perform (store_of s ts) e (call (Some c))).store call-Sound
 
-  module _ (i : ℕ) (h : i < 8) (p : i + 1 ≡ e) (x : Transaction) (r : Reply) (l : Lock) (n : Option Entry) (known : r ≡ reply c d.state)
-      (le : l ≡ lock_of c) (ne : n ≡ entry_of c r) where
+  module _ (i : ℕ) (h : i < 8) (p : i + 1 ≡ e) (x : Transaction) (r : Reply) (l : Lock) (n : Option Entry)
+      (known : r ≡ reply c d.state) (le : l ≡ lock_of c) (ne : n ≡ entry_of c r) where
     place : transaction (store_of s ts) e ≡ get_or ts i x
     place = sym (by_value (λ d e. transaction d e) (store_of s ts) _ i e refl p) ∙ there s ts i h v x
 

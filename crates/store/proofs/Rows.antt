@@ -6,14 +6,33 @@ use borrow.Author.Tests.{leb-true, leb-false}
 use Rattle.std.proofs.lemmas.List.{get_or_past}
 use Rattle.tables.proofs.Laws.{split}
 use Rattle.refusals.specs.declared.Refusal.{Refusal}
-use Rattle.refusals.specs.declared.Refusal.TheVariants.{TransactionOutOfRange, AlreadyBegun, NotBegun, NotAborting, CueOutOfRange}
+use Rattle.refusals.specs.declared.Refusal.TheVariants.{
+  TransactionOutOfRange,
+  AlreadyBegun,
+  NotBegun,
+  NotAborting,
+  CueOutOfRange,
+}
 use Rattle.refusals.specs.declared.Refusal.TheVariants.{Malformed as MalformedLine, Aborting as IsAborting}
 use Rattle.answers.specs.declared.Answer.{Answer}
 use Rattle.answers.specs.declared.Answer.TheVariants.{Refused}
 use Rattle.steps.specs.declared.reading.Step.{Step}
 use Rattle.boosting.specs.Object.{Call, Reply, State, reply}
 use Rattle.boosting.specs.Store.{closed, «open», aborting, Transaction, closed_transaction, Store, valid, transaction}
-use Rattle.boosting.specs.Rows.{Action, begin, commit, abort, roll_back, call, Request, request, call_rows, request_of, first_met, refusal_of}
+use Rattle.boosting.specs.Rows.{
+  Action,
+  begin,
+  commit,
+  abort,
+  roll_back,
+  call,
+  Request,
+  request,
+  call_rows,
+  request_of,
+  first_met,
+  refusal_of,
+}
 use Rattle.boosting.specs.Step.{Out, perform, refuse, step_on}
 use Rattle.boosting.specs.Sound.{Sound, ActionKey, RequestKey}
 use Rattle.boosting.proofs.Accepted.{step_refused, step_accepted}
@@ -46,7 +65,8 @@ module _ (d : Store) (q : Request) where
       unfolding step_on refusal_of first_met
       not_begun n = go q.action n
         where
-          go : (a : Action) → (a ≡ begin → ⊥) → step_on d (Some (record { transaction = q.transaction; action = a })) ≡ refuse d NotBegun
+          go : (a : Action) → (a ≡ begin → ⊥)
+              → step_on d (Some (record { transaction = q.transaction; action = a })) ≡ refuse d NotBegun
           go begin n = absurd (n refl)
           go commit n = rw (v, ← s) refl
           go abort n = rw (v, ← s) refl
@@ -121,12 +141,13 @@ open_valid d (suc i) v s =
     absurd (open_unclosed _ s (ap (λ (t : Transaction). t.standing) out)))
     (λ p. range_valid (suc i) (omega arith) (omega (arith, leb-false 8 i p)))
 
-module _ (s : State) (ts : List Transaction) (v : Sound (store_of s ts)) (d : Store) (is : store_of s ts ≡ d) (e : ℕ) (c : Call)
-    (o : (transaction d e).standing ≡ «open») where
+module _ (s : State) (ts : List Transaction) (v : Sound (store_of s ts)) (d : Store) (is : store_of s ts ≡ d) (e : ℕ)
+    (c : Call) (o : (transaction d e).standing ≡ «open») where
   rows_are : refusal_of d (request e (call (Some c))) ≡ first_met (call_rows (store_of s ts) e c)
   unfolding refusal_of first_met
   rows_are =
-      let ok : valid e ≡ true = open_valid (store_of s ts) e v (ap (λ (d : Store). (transaction d e).standing) is ∙ o) in
+      let p = ap (λ (d : Store). (transaction d e).standing) is ∙ o in
+      let ok : valid e ≡ true = open_valid (store_of s ts) e v p in
       rw (ok, o) (ap (λ (d : Store). first_met (call_rows d e c)) (sym is))
 
   module _ (r : Refusal) (p : Err r ≡ admitted (first_met (call_rows (store_of s ts) e c)) (reply c s)) where
@@ -143,8 +164,10 @@ module _ (s : State) (ts : List Transaction) (v : Sound (store_of s ts)) (d : St
     pub call_accepted : refusal_of d (request e (call (Some c))) ≡ None
     call_accepted = rows_are ∙ admitted-Ok _ _ _ p
 
-    pub done-store : (x : Store) → x ≡ (perform d e (call (Some c))).store → x ≡ (step_on d (request e (call (Some c)))).store
+    pub done-store : (x : Store) → x ≡ (perform d e (call (Some c))).store
+        → x ≡ (step_on d (request e (call (Some c)))).store
     done-store x q = q ∙ ap (λ (o : Out). o.store) (sym (step_accepted d e _ call_accepted))
 
-    pub done-answer : (x : Answer) → x ≡ (perform d e (call (Some c))).answer → x ≡ (step_on d (request e (call (Some c)))).answer
+    pub done-answer : (x : Answer) → x ≡ (perform d e (call (Some c))).answer
+        → x ≡ (step_on d (request e (call (Some c)))).answer
     done-answer x q = q ∙ ap (λ (o : Out). o.answer) (sym (step_accepted d e _ call_accepted))

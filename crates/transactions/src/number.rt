@@ -1,7 +1,7 @@
 // The number of a transaction: 1 to 8.
 //
-// Where one stands nothing has to be asked about its range: a number that is read becomes one by row 2 of the table, and
-// its place in an array of the eight is below 8.
+// Where one stands nothing has to be asked about its range: a number that is read becomes one by row 2 of the table,
+// and its place in an array of the eight is below 8.
 ghost use Rattle.std.specs.Prelude.{◌≡◌, ◌+◌, ◌<◌};
 ghost use Rattle.boosting.specs.Recovery.{rising};
 
@@ -37,7 +37,7 @@ impl TryFrom<u64> for TransactionNumber {
         if !(1..=8).contains(&number) {
             return Err(Refusal::TransactionOutOfRange);
         }
-        // By `as`: a `u64` has no `From` into `usize`, and the test has made it small.
+        // By `as`: `usize` has no `From<u64>`, and the test has made the number small.
         Ok(TransactionNumber {
             number: number as usize,
         })
