@@ -1,5 +1,24 @@
 -- The sieve of the cue locks: a key that does not pass it is not held, and a key more has its bit. Assumes nothing.
-use Rattle.std.proofs.Common.{◌≡◌, ℕ, ◌*◌, ◌/◌, ◌%◌, ◌^◌, max, false, List, [], ◌∷◌, ◌++◌, refl, ap, ◌∙◌, sym, arith, bit_or}
+use Rattle.std.proofs.Common.{
+  ◌≡◌,
+  ℕ,
+  ◌*◌,
+  ◌/◌,
+  ◌%◌,
+  ◌^◌,
+  max,
+  false,
+  List,
+  [],
+  ◌∷◌,
+  ◌++◌,
+  refl,
+  ap,
+  ◌∙◌,
+  sym,
+  arith,
+  bit_or,
+}
 use Rattle.std.specs.Int.{bit_at, w64}
 use Rattle.std.proofs.lemmas.Bool.{ne_eqb}
 use Rattle.std.proofs.lemmas.Nat.Bits.{bit_at_or, bit_at-lt, bit_at_set_same}

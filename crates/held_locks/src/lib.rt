@@ -147,6 +147,7 @@ impl HeldLocks {
     pub fn conflicts(&self, lock: Lock) -> bool
         ensures { result ≡ conflicts lock self.now }
     {
+        // The modes by `|`, which does not branch as `||` does.
         match lock {
             Lock::Cue(key) => self.holds_cue(key),
             Lock::Push => self.looks | self.takes,

@@ -83,7 +83,8 @@ impl SharedObject {
         }
     }
 
-    // Starts again with these keys as the script and an empty queue.
+    // Starts again with these keys as the script and an empty queue. Their order is asked for, since a slice has no
+    // invariant.
     #[tactic(auto, unfolding(boosting::specs::Store::started))]
     pub fn open(&mut self, keys: &[u64])
         requires fits { length keys.now ≤ 256 }
@@ -94,6 +95,7 @@ impl SharedObject {
         self.queue.clear();
     }
 
+    // The script's keys. Their order is a clause, since a slice has no invariant.
     pub fn script(&self) -> &[u64]
         ensures value { result.now ≡ self.now.script }
         ensures fits { length result.now ≤ 256 }
@@ -102,6 +104,7 @@ impl SharedObject {
         self.script.as_slice()
     }
 
+    // The queue's keys, likewise.
     pub fn queue(&self) -> &[u64]
         ensures value { result.now ≡ self.now.queue }
         ensures fits { length result.now ≤ 64 }

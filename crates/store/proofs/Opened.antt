@@ -1,10 +1,9 @@
 -- A store that is opened: the keys of the script read, an empty queue, eight closed transactions. Assumes nothing.
 use Rattle.std.proofs.Common.{◌≡◌, ℕ, zero, suc, ◌≤◌, List, [], length, replicate, refl, sym, ap, subst, ◌∙◌, arith}
 use Rattle.std.proofs.lemmas.List.{take_all}
-use Rattle.tables.specs.Table.{Ordered}
-use Rattle.tables.proofs.Laws.{Ordered-weaken}
+use Rattle.std.specs.Prelude.{Result, Ok, Err}
+use Rattle.refusals.specs.declared.RefusedText.{RefusedText}
 use Rattle.scripts.specs.Script.{keys_in, script_of, script_or_empty}
-use Rattle.scripts.proofs.Theorems.{read_is_sound}
 use Rattle.boosting.specs.Object.{State}
 use Rattle.boosting.specs.Store.{Transaction, closed_transaction, started, opened}
 use Rattle.boosting.specs.Room.{reserved_by, reserved_in, takes_by, takes_in}
@@ -39,18 +38,28 @@ pub new-Sound : (s : State) (ts : List Transaction) → s ≡ started [] → ts 
     → Sound (record { state = s; transactions = ts })
 new-Sound s ts q r = subst Sound (sym (new_is s ts q r)) empty_sound
 
+-- the keys of an accepted script, and none of a refused one
+pub accepted_keys : (r : Result (List ℕ) RefusedText) (keys script : List ℕ) → keys ≡ script → Ok script ≡ r
+    → keys ≡ script_or_empty r
+accepted_keys r keys script p q = p ∙ ap script_or_empty q
+
+pub refused_keys : (r : Result (List ℕ) RefusedText) (why : RefusedText) → Err why ≡ r → [] ≡ script_or_empty r
+refused_keys r why q = ap script_or_empty q
+
 -- the store of a text, whose script these keys are
-module _ (text keys : List ℕ) (is : keys ≡ script_or_empty (script_of text)) where
-  pub in_order : Ordered 0 keys
-  in_order = subst (Ordered 0) (sym is) (Ordered-weaken 1 (script_or_empty (script_of text)) (read_is_sound text).rising)
+module _ (s : State) (ts : List Transaction) (keys text : List ℕ) (q : s ≡ started keys)
+    (r : ts ≡ replicate 8 closed_transaction) (is : keys ≡ script_or_empty (script_of text)) where
+  pub opened_is : record { state = s; transactions = ts } ≡ opened (script_or_empty (script_of text))
+  unfolding opened
+  opened_is = λ i. record { state = (q ∙ ap started is) i; transactions = r i }
 
-  module _ (s : State) (ts : List Transaction) (q : s ≡ started keys) (r : ts ≡ replicate 8 closed_transaction) where
-    pub opened_is : record { state = s; transactions = ts } ≡ opened (script_or_empty (script_of text))
-    unfolding opened
-    opened_is = λ i. record { state = (q ∙ ap started is) i; transactions = r i }
+  opened-Sound : Sound (record { state = s; transactions = ts })
+  opened-Sound = subst Sound (sym opened_is) (opened_is_sound text)
 
-    pub opened-Sound : Sound (record { state = s; transactions = ts })
-    opened-Sound = subst Sound (sym opened_is) (opened_is_sound text)
+pub accepted-Sound : (s : State) (ts : List Transaction) (keys script text : List ℕ) → s ≡ started keys
+    → ts ≡ replicate 8 closed_transaction → keys ≡ script → Ok script ≡ script_of text → Sound (record { state = s; transactions = ts })
+accepted-Sound s ts keys script text q r p is =
+    opened-Sound s ts keys text q r (accepted_keys (script_of text) keys script p is)
 
 -- a table of no more than 256 keys holds them all
 pub keys_all : (l keys : List ℕ) → keys ≡ l → length l ≤ 256 → keys_in keys (length keys) ≡ l

@@ -1,7 +1,7 @@
-// What an accepted step does to the store, where it stands.
-ghost use Rattle.std.specs.Prelude.{◌≡◌, ◌≤◌, None};
+// What an accepted step does to the store, where it stands, and what it is answered; and how a transaction stands.
+ghost use Rattle.std.specs.Prelude.{◌≡◌, true, Some, None};
 ghost use Rattle.boosting.specs.Object.{reply as reply_of};
-ghost use Rattle.boosting.specs.Store.{transaction, aborting};
+ghost use Rattle.boosting.specs.Store.{transaction, valid, aborting};
 ghost use Rattle.boosting.specs.Rows.{begin, commit, abort, roll_back, call as on_object, refusal_of, request};
 ghost use Rattle.boosting.specs.Sound.{CallKey};
 ghost use Rattle.boosting.specs.Step.{perform};
@@ -9,64 +9,71 @@ ghost use Rattle.boosting.specs.Step.{perform};
 use crate::Store;
 use answers::Answer;
 use shared_object::{answer_of, entry_of, lock_of};
-use vocabulary::{Call, Reply};
+use transactions::TransactionNumber;
+use vocabulary::{Call, Reply, Standing};
 
+#[tactic(auto, unfolding(boosting::specs::Step::perform))]
 impl Store {
-    // Transaction e opens.
-    pub(crate) fn begin(&mut self, e: usize)
-        requires lowest { 1 ≤ e }
-        requires highest { e ≤ 8 }
-        ensures { self.new ≡ (perform self.old e begin).store }
+    // How transaction e stands.
+    #[inline(always)]
+    pub(crate) fn standing(&self, e: TransactionNumber) -> Standing
+        ensures value { result ≡ (transaction self.now e).standing }
+        ensures in_range { valid e ≡ true }
     {
-        self.transactions[e - 1].begin();
+        self.transactions[e.index()].standing()
+    }
+
+    // Transaction e opens.
+    pub(crate) fn begin(&mut self, e: TransactionNumber) -> Answer
+        ensures store { self.new ≡ (perform self.old e begin).store }
+        ensures answer { result ≡ (perform self.old e begin).answer }
+    {
+        self.transactions[e.index()].begin();
+        Answer::Ok
     }
 
     // Transaction e closes.
-    pub(crate) fn commit(&mut self, e: usize)
-        requires lowest { 1 ≤ e }
-        requires highest { e ≤ 8 }
-        ensures { self.new ≡ (perform self.old e commit).store }
+    pub(crate) fn commit(&mut self, e: TransactionNumber) -> Answer
+        ensures store { self.new ≡ (perform self.old e commit).store }
+        ensures answer { result ≡ (perform self.old e commit).answer }
     {
-        self.transactions[e - 1].close();
+        self.transactions[e.index()].close();
+        Answer::Ok
     }
 
     // Transaction e only rolls back from here on.
-    pub(crate) fn abort(&mut self, e: usize)
-        requires lowest { 1 ≤ e }
-        requires highest { e ≤ 8 }
-        ensures { self.new ≡ (perform self.old e abort).store }
+    pub(crate) fn abort(&mut self, e: TransactionNumber) -> Answer
+        ensures store { self.new ≡ (perform self.old e abort).store }
+        ensures answer { result ≡ (perform self.old e abort).answer }
     {
-        self.transactions[e - 1].abort();
+        self.transactions[e.index()].abort();
+        Answer::Ok
     }
 
     // The newest entry of an aborting transaction is taken back: how many are left.
-    pub(crate) fn roll_back(&mut self, e: usize) -> Answer
-        requires lowest { 1 ≤ e }
-        requires highest { e ≤ 8 }
-        requires is_aborting { (transaction self.old e).standing ≡ aborting }
+    pub(crate) fn roll_back(&mut self, e: TransactionNumber) -> Answer
+        requires { (transaction self.old e).standing ≡ aborting }
         ensures store { self.new ≡ (perform self.old e roll_back).store }
         ensures answer { result ≡ (perform self.old e roll_back).answer }
     {
-        let Some(entry) = self.transactions[e - 1].take_newest() else {
+        let Some(entry) = self.transactions[e.index()].take_newest() else {
             return Answer::Left(0);
         };
         self.object.undo(entry);
-        Answer::Left(self.transactions[e - 1].log().len())
+        Answer::Left(self.transactions[e.index()].log().len())
     }
 
     // An accepted call with its reply: the plain operation is run, its lock held and its entry noted.
     #[inline(always)]
-    pub(crate) fn accept(&mut self, e: usize, in_range: bool, call: Call, reply: Reply) -> Answer
-        requires lowest { 1 ≤ e }
-        requires highest { e ≤ 8 }
-        requires accepted { refusal_of self.old (request e (on_object in_range call)) ≡ None }
+    pub(crate) fn accept(&mut self, e: TransactionNumber, call: Call, reply: Reply) -> Answer
+        requires accepted { refusal_of self.old (request e (on_object (Some call))) ≡ None }
         requires is_key { CallKey call }
         requires known { reply ≡ reply_of call self.old.state }
-        ensures store { self.new ≡ (perform self.old e (on_object in_range call)).store }
-        ensures answer { result ≡ (perform self.old e (on_object in_range call)).answer }
+        ensures store { self.new ≡ (perform self.old e (on_object (Some call))).store }
+        ensures answer { result ≡ (perform self.old e (on_object (Some call))).answer }
     {
         self.object.apply(call, reply);
-        self.transactions[e - 1].accept(lock_of(call), entry_of(call, reply));
+        self.transactions[e.index()].accept(lock_of(call), entry_of(call, reply));
         answer_of(reply)
     }
 }

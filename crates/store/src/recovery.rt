@@ -1,33 +1,34 @@
 // Recovery: every unclosed transaction is undone, newest entry first, and closed, in rising numbers.
-ghost use Rattle.std.specs.Prelude.{◌≡◌, ◌≤◌};
+ghost use Rattle.std.specs.Prelude.{◌≡◌};
 ghost use Rattle.boosting.specs.Rows.{request, abort, roll_back};
 ghost use Rattle.boosting.specs.Step.{step_on};
 ghost use Rattle.boosting.specs.Recovery.{roll_backs, recover_one, recover, rising};
 
 use crate::Store;
+use transactions::TransactionNumber;
 use vocabulary::Standing;
 
 impl Store {
     // An open transaction is aborting from now on; any other refuses, and nothing changes.
-    fn abort_open(&mut self, e: usize)
-        requires lowest { 1 ≤ e }
-        requires highest { e ≤ 8 }
+    #[tactic(auto, using(crate::proofs::Rows::row_rules))]
+    fn abort_open(&mut self, e: TransactionNumber)
         ensures { self.new ≡ (step_on self.old (request e abort)).store }
     {
-        match self.transactions[e - 1].standing() {
+        match self.standing(e) {
             Standing::Closed => {}
-            Standing::Open => self.abort(e),
+            Standing::Open => {
+                self.abort(e);
+            }
             Standing::Aborting => {}
         }
     }
 
     // One entry of an aborting transaction is undone; any other refuses, and nothing changes.
-    fn step_back(&mut self, e: usize)
-        requires lowest { 1 ≤ e }
-        requires highest { e ≤ 8 }
+    #[tactic(auto, using(crate::proofs::Rows::row_rules))]
+    fn step_back(&mut self, e: TransactionNumber)
         ensures { self.new ≡ (step_on self.old (request e roll_back)).store }
     {
-        match self.transactions[e - 1].standing() {
+        match self.standing(e) {
             Standing::Closed => {}
             Standing::Open => {}
             Standing::Aborting => {
@@ -37,9 +38,8 @@ impl Store {
     }
 
     // So many rollback steps.
-    fn roll_backs(&mut self, e: usize, steps: usize)
-        requires lowest { 1 ≤ e }
-        requires highest { e ≤ 8 }
+    #[tactic(auto, using(crate::proofs::Recovering::steps_rules))]
+    fn roll_backs(&mut self, e: TransactionNumber, steps: usize)
         ensures { self.new ≡ roll_backs steps self.old e }
     {
         for _step in 0..steps {
@@ -48,21 +48,20 @@ impl Store {
     }
 
     // Transaction e is undone and closed, if it is not.
-    fn recover_one(&mut self, e: usize)
-        requires lowest { 1 ≤ e }
-        requires highest { e ≤ 8 }
+    fn recover_one(&mut self, e: TransactionNumber)
         ensures { self.new ≡ recover_one self.old e }
     {
-        let entries = self.transactions[e - 1].log().len();
+        let entries = self.transactions[e.index()].log().len();
         self.abort_open(e);
         self.roll_backs(e, entries + 1);
     }
 
     // Every unclosed transaction is undone and closed.
+    #[tactic(auto, using(crate::proofs::Recovering::recovery_rules))]
     pub fn recover(&mut self)
         ensures { self.new ≡ recover self.old rising }
     {
-        for e in 1..9 {
+        for e in TransactionNumber::all() {
             self.recover_one(e);
         }
     }

@@ -11,10 +11,14 @@ ghost use Rattle.boosting.specs.Step.{aborted};
 ghost use Rattle.undo_logs.specs.Log.{newest};
 ghost use Rattle.transactions.specs.Steps.{accepted, unwound_once};
 
+mod number;
+
 use held_locks::HeldLocks;
 use std::marker::Model;
 use undo_logs::UndoLog;
 use vocabulary::{Entry, Lock, Standing};
+
+pub use number::TransactionNumber;
 
 #[derive(Drop)]
 pub struct Transaction {

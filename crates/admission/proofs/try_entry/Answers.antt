@@ -1,29 +1,41 @@
-use Rattle.std.proofs.Common.{sym, ap, ◌∙◌, arith}
-use Rattle.std.specs.Prelude.{Some}
-use Rattle.boosting.specs.Store.{Transaction}
+use Rattle.std.proofs.Common.{◌≡◌, refl, ◌∙◌, length, arith}
+use mathlib.Core.Logic.{inl, inr}
+use Rattle.std.proofs.lemmas.Bool.{le-leb, lt-leb}
+use Rattle.boosting.specs.Store.{Transaction, transaction}
+use Rattle.boosting.specs.Rows.{first_met}
 use Rattle.admission.specs.Answers.{store_of}
 use Rattle.admission.proofs.Rows as laws
 use Rattle.admission.proofs.try_entry.Goals as goal
+use Rattle.admission.proofs.try_entry.Goals.{After-len}
+
+log_is : (c : After-len) → (transaction (store_of c.args.object.now c.args.transactions.now) c.args.e).log ≡ c.log.result.now
+log_is c = laws.part-place _ c.args.transactions.now _ c.index.result _ c.index.ensures.place (omega arith) (λ (t : Transaction). t.log) _ c.log.ensures
 
 pub returns-in_default : goal.returns-in_default
-returns-in_default c = laws.no_entry (store_of c.args.object.now c.args.transactions.now) c.args.e c.args.noted c.in_default.is
+unfolding first_met
+returns-in_default c = rw c.in_default.is refl
 
 pub returns-then-len-ge16 : goal.returns-then-len-ge16
+unfolding first_met
 returns-then-len-ge16 c =
-    let is = ap (λ (t : Transaction). t.log) (laws.transaction-place c.args.object.now c.args.transactions.now c.args.e _ c.requires.lowest (omega arith)) ∙ sym c.log.ensures in
-    laws.log_row (store_of c.args.object.now c.args.transactions.now) c.args.e c.args.noted _ is _ c.in-Some.is (omega (arith, c.len.ensures.value))
+    rw (c.in-Some.is, log_is (goal.at.returns-then-len-ge16 c).After-len, le-leb 16 (length c.log.result.now) (omega arith)) refl
 
 pub returns-in-Added : goal.returns-in-Added
+unfolding first_met
 returns-in-Added c =
-    let is = ap (λ (t : Transaction). t.log) (laws.transaction-place c.args.object.now c.args.transactions.now c.args.e _ c.requires.lowest (omega arith)) ∙ sym c.log.ensures in
-    c.refused_when.ensures ∙ laws.script_row (store_of c.args.object.now c.args.transactions.now) c.args.e c.args.noted _ is (omega (arith, c.len.ensures.value)) _ _ (c.in-Some.is ∙ ap Some c.in-Added.is) c.script_full.ensures
+    c.refused_when.ensures
+    ∙ rw (c.in-Some.is, c.in-Added.is, log_is (goal.at.returns-in-Added c).After-len, lt-leb 16 (length c.log.result.now) (omega arith), ← c.script_full.ensures)
+    (laws.one_row _ _ _ _ refl)
 
 pub returns-in-Pushed : goal.returns-in-Pushed
+unfolding first_met
 returns-in-Pushed c =
-    let is = ap (λ (t : Transaction). t.log) (laws.transaction-place c.args.object.now c.args.transactions.now c.args.e _ c.requires.lowest (omega arith)) ∙ sym c.log.ensures in
-    c.refused_when-in-Pushed.ensures ∙ laws.queue_row (store_of c.args.object.now c.args.transactions.now) c.args.e c.args.noted _ is (omega (arith, c.len.ensures.value)) _ _ (c.in-Some.is ∙ ap Some c.in-Pushed.is) c.queue_full.ensures
+    c.refused_when-in-Pushed.ensures
+    ∙ rw (c.in-Some.is, c.in-Pushed.is, log_is (goal.at.returns-in-Pushed c).After-len, lt-leb 16 (length c.log.result.now) (omega arith), ← c.queue_full.ensures)
+    (laws.one_row _ _ _ _ refl)
 
 pub returns-in-Removed : goal.returns-in-Removed
+unfolding first_met
 returns-in-Removed c =
-    let is = ap (λ (t : Transaction). t.log) (laws.transaction-place c.args.object.now c.args.transactions.now c.args.e _ c.requires.lowest (omega arith)) ∙ sym c.log.ensures in
-    laws.kept_row (store_of c.args.object.now c.args.transactions.now) c.args.e c.args.noted _ is (omega (arith, c.len.ensures.value)) _ c.in-Some.is c.in-Removed.is
+    rw (c.in-Some.is, log_is (goal.at.returns-in-Removed c).After-len, lt-leb 16 (length c.log.result.now) (omega arith))
+    (elim c.in-Removed.is [ inl p ↦ rw p.1 refl | inr p ↦ rw p.1 refl ])

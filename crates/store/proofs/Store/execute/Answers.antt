@@ -1,8 +1,6 @@
-use Rattle.store.proofs.Requests.{malformed}
+use Rattle.std.specs.Prelude.{Some}
+use Rattle.store.proofs.Rows.{asked_key}
 use Rattle.store.proofs.Store.execute.Goals as goal
 
-pub returns-in_default-clause-store : goal.returns-in_default-clause-store
-returns-in_default-clause-store c = (malformed c.args.self.now c.args.step c.in_default.is).0
-
-pub returns-in_default-clause-answer : goal.returns-in_default-clause-answer
-returns-in_default-clause-answer c = (malformed c.args.self.now c.args.step c.in_default.is).1
+pub try_request-requires : goal.try_request-requires
+try_request-requires c = asked_key _ (Some c.in-Some.step) c.request_of.ensures

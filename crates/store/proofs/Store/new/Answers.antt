@@ -1,8 +1,9 @@
+use Rattle.std.proofs.Common.{arith}
 use Rattle.store.proofs.Opened as laws
 use Rattle.store.proofs.Store.new.Goals as goal
 
 pub invariant_of-result : goal.invariant_of-result
-invariant_of-result c = laws.new-Sound c.new.result c.all_closed.result c.new.ensures c.all_closed.ensures
+invariant_of-result c = search (laws.new-Sound, arith)
 
 pub returns : goal.returns
-returns c = laws.new_is c.new.result c.all_closed.result c.new.ensures c.all_closed.ensures
+returns c = search (laws.new_is, arith)
