@@ -36,14 +36,14 @@ pub left_all : {buf all : List ℕ} {at : ℕ} → at + length all ≤ length bu
 left_all h = record { fits = h; size = refl; place = refl; stored = refl }
 
 module _ {buf all mid rest : List ℕ} {at end : ℕ} (l : Left buf all at mid rest end) where
-  room : end + length rest ≤ length mid
-  room = omega (arith, l.fits, l.place, l.size)
+  pub left_fits : end + length rest ≤ length mid
+  left_fits = omega (arith, l.fits, l.place, l.size)
 
   -- a writer of the rest gives the whole
   pub left_last : {last after : List ℕ} {r : Result ℕ Refusal} → rest ≡ last → (r, after) ≡ written_at mid end last
       → (r, after) ≡ written_at buf at all
   left_last {last} {after} {r} q w =
-      let b = written_back r mid after rest end room (w ∙ ap (written_at mid end) (sym q)) in
+      let b = written_back r mid after rest end left_fits (w ∙ ap (written_at mid end) (sym q)) in
       let d : (Ok (end + length rest), after) ≡ written_at buf at all
       = written buf after all at (end + length rest) l.fits l.place (b.1 ∙ l.stored) in
       (λ i. (b.0 i, after)) ∙ d
@@ -55,7 +55,7 @@ module _ {buf all mid rest : List ℕ} {at end : ℕ} (l : Left buf all at mid r
       (ap (sets mid end) (sym q) ∙ l.stored)
 
   pub first_fits : {u v : List ℕ} → Parts rest u v → end + length u ≤ length mid
-  first_fits {u} {v} p = omega (arith, ap length p.are ∙ length-append u v, room)
+  first_fits {u} {v} p = omega (arith, ap length p.are ∙ length-append u v, left_fits)
 
   -- the first part fits: its writer does not refuse refuse, and leaves the second
   module _ {u v after : List ℕ} {r : Result ℕ Refusal} (p : Parts rest u v) (w : (r, after) ≡ written_at mid end u) where
