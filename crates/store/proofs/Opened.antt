@@ -1,9 +1,8 @@
 -- A store that is opened: the keys of the script read, an empty queue, eight closed transactions. Assumes nothing.
-use Rattle.std.proofs.Common.{◌≡◌, ℕ, zero, suc, ◌≤◌, List, [], length, replicate, refl, sym, ap, subst, ◌∙◌, arith}
-use Rattle.std.proofs.lemmas.List.{take_all}
+use Rattle.std.proofs.Common.{◌≡◌, ℕ, zero, suc, List, [], replicate, refl, sym, ap, subst, ◌∙◌, arith}
 use Rattle.tables.specs.Table.{Ordered}
 use Rattle.tables.proofs.Laws.{Ordered-weaken}
-use Rattle.scripts.specs.Script.{keys_in, script_of, script_or_empty}
+use Rattle.scripts.specs.Script.{script_of, script_or_empty}
 use Rattle.scripts.proofs.Theorems.{read_is_sound}
 use Rattle.boosting.specs.Object.{State}
 use Rattle.boosting.specs.Store.{Transaction, closed_transaction, started, opened}
@@ -51,7 +50,3 @@ module _ (text keys : List ℕ) (is : keys ≡ script_or_empty (script_of text))
 
     pub opened-Sound : Sound (record { state = s; transactions = ts })
     opened-Sound = subst Sound (sym opened_is) (opened_is_sound text)
-
--- a table of no more than 256 keys holds them all
-pub keys_all : (l keys : List ℕ) → keys ≡ l → length l ≤ 256 → keys_in keys (length keys) ≡ l
-keys_all l keys q h = rw (q, take_all 256 l h, take_all (length l) l (omega arith)) refl
