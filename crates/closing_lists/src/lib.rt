@@ -16,13 +16,13 @@ use shared_object::SharedObject;
 use word_lines::write_number_line;
 
 // How many bytes a list has: the word and the count of the keys with LF, then their cue lines.
-#[tactic(auto, using(crate::proofs::Lists::list_counted))]
+#[tactic(auto, using(crate::proofs::Fitting::list_length))]
 fn list_length(word: &[u8], keys: &[u64]) -> usize
     requires { length keys.now ≤ 256 }
     ensures counted { result ≡ length (list_text word.now keys.now) }
     ensures at_most { result ≤ length word.now + 16149 }
 {
-    word.len() + digit_count(keys.len() as u64) + 1 + cues_length(keys, keys.len())
+    word.len() + digit_count(keys.len() as u64) + 1 + cues_length(keys)
 }
 
 // How many bytes both lists have.
@@ -41,10 +41,11 @@ fn write_list(buf: &mut [u8], at: usize, word: &[u8], keys: &[u64]) -> Result<us
     ensures { (result, buf.new) ≡ written_at buf.old at (list_text word.now keys.now) }
 {
     let middle = write_number_line(buf, at, word, keys.len() as u64)?;
-    write_cues(buf, middle, keys, keys.len())
+    write_cues(buf, middle, keys)
 }
 
 // Writes both lists at a place of the buffer, if they fit there.
+#[tactic(auto, using(buffers::proofs::Rest::no_room_left))]
 pub fn write_closing(buf: &mut [u8], at: usize, object: &SharedObject) -> Result<usize, Refusal>
     ensures { (result, buf.new) ≡ written_at buf.old at (closing_text object.now) }
 {

@@ -1,4 +1,3 @@
 -- Laws of the lines and of writing them; the theorems.
 pub mod Listings
-pub mod Rest
 pub mod Theorems

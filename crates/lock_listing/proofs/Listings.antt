@@ -7,6 +7,13 @@ use native.Mathlib.Numerals.{add-one}
 use native.Mathlib.Omega.{arith}
 use lib.ListN.{length, drop, get_or, length-append}
 use Rattle.std.proofs.lemmas.List.{drop_more, drop_all}
+use Rattle.buffers.proofs.Rest.{Parts, no_room_left}
+use Rattle.buffers.specs.Written.{written_at}
+use mathlib.Core.List.Perm
+use lib.Dec.{leb}
+use Rattle.std.specs.Prelude.{Result, Err}
+use Rattle.refusals.specs.declared.Refusal.{Refusal}
+use Rattle.refusals.specs.declared.Refusal.TheVariants.{BufferTooShort}
 use Rattle.lines.specs.Ascii.{bytes}
 use Rattle.digits.specs.Digits.{digits_of}
 use Rattle.records.specs.Record.{field_text}
@@ -15,7 +22,7 @@ use Rattle.cue_texts.specs.CueText.{cue_text}
 use Rattle.boosting.specs.Locks.{Locks}
 use Rattle.boosting.specs.Store.{Transaction}
 use Rattle.boosting.specs.Listing.{lock_line, mode_line, lock_lines, mode_lines, modes_of, listing_of, listing_from}
-use Rattle.lock_listing.specs.Listed.{mode_text, modes_text, locks_text}
+use Rattle.lock_listing.specs.Listed.{ListingWritten, mode_text, modes_text, locks_text, listing_text}
 
 -- ---- one line
 line_length : (e : ℕ) (u v : List ℕ)
@@ -112,11 +119,11 @@ module _ (e : ℕ) (l : Locks) (j : ℕ) where
     locks_next_length = ap length locks_next ∙ length-append (lock_line e (get_or l.cues j k)) (locks_from e l (j + 1))
 
   -- the line that is written next
-  pub locks_part : (items line : List ℕ) (k : ℕ) → items ≡ l.cues → j < length items
-      → line ≡ lock_line e (get_or items j k) → locks_from e l j ≡ line ++ locks_from e l (j + 1)
-  locks_part items line k q h r =
+  pub locks_parts : (items line : List ℕ) (k : ℕ) → items ≡ l.cues → j < length items
+      → line ≡ lock_line e (get_or items j k) → Parts (locks_from e l j) line (locks_from e l (j + 1))
+  locks_parts items line k q h r =
       let g : j < length l.cues = omega (arith, ap length q) in
-      locks_next k g ∙ rw (r, q) refl
+      record { are = locks_next k g ∙ rw (r, q) refl }
 
   pub locks_over : length l.cues ≤ j → locks_from e l j ≡ modes_text e l
   unfolding lock_lines
@@ -141,14 +148,24 @@ module _ (ts : List Transaction) (i : ℕ) where
         ap length listing_next ∙ length-append (locks_text (i + 1) (get_or ts i t).locks) (listing_after ts (i + 1))
 
   -- the lines that are written next
-  pub listing_part : (t : Transaction) (l : Locks) → i < length ts → l ≡ (get_or ts i t).locks
-      → listing_after ts i ≡ locks_text (i + 1) l ++ listing_after ts (i + 1)
-  listing_part t l h q = listing_next t h ∙ rw q refl
+  pub listing_parts : (t : Transaction) (l : Locks) → i < length ts → l ≡ (get_or ts i t).locks
+      → Parts (listing_after ts i) (locks_text (i + 1) l) (listing_after ts (i + 1))
+  listing_parts t l h q = record { are = listing_next t h ∙ rw q refl }
 
   pub listing_over : length ts ≤ i → listing_after ts i ≡ []
   unfolding flatten listing_from
   listing_over h = rw (drop_all i ts h) refl
 
+-- ---- the lines that the program writes: those of the model, in its order
+pub in_order : (ts : List Transaction) (at : ℕ) (before : List ℕ) {after : List ℕ} {r : Result ℕ Refusal}
+    → (r, after) ≡ written_at before at (listing_text ts) → ListingWritten ts at before after r
+in_order ts at before w =
+    let lines = listing_from 1 ts in record { lines = lines; order = Perm.refl lines; written = w }
+
+pub no_listing : (ts : List Transaction) (at : ℕ) (buf : List ℕ) → leb (at + length (listing_text ts)) (length buf) ≡ false
+    → ListingWritten ts at buf buf (Err BufferTooShort)
+no_listing ts at buf h = in_order ts at buf (no_room_left buf (listing_text ts) at h)
+
 pub ruleset locks_rules = (locks_next_length, locks_over)
 
-pub ruleset listing_rules = (listing_next_length, listing_over)
+pub ruleset listing_rules = (listing_next_length, listing_over, no_listing)

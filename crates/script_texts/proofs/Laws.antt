@@ -1,54 +1,51 @@
 -- Laws of writing the cues of a table, a key at a time. Assumes nothing.
-use mathlib.Core.Path.{◌≡◌, sym, ap, ◌∙◌}
-use mathlib.Core.List.{List, [], ◌++◌}
-use Prim.Native.Nat.{ℕ, ◌+◌, ◌≤◌, ◌<◌, min}
-use native.Mathlib.Omega.{arith}
-use native.Mathlib.Numerals.{add-one}
-use lib.ListN.{length, get_or, take, drop, length-take, length-append, drop_of_length-le}
-use lib.Seq.{drop-cons, sets}
-use Rattle.std.proofs.Math.Seq.{take_all}
-use Rattle.std.proofs.lemmas.List.{take-take, take_min}
-use Rattle.buffers.proofs.Laws.{sets-append}
+use Rattle.std.proofs.Common.{◌≡◌, ℕ, ◌+◌, ◌≤◌, ◌<◌, min, List, [], ◌++◌, length, get_or, take, drop, ap, ◌∙◌, arith}
+use Rattle.std.proofs.Common.{add-one, length-append}
+use Rattle.std.proofs.Math.Nat.{min_comm}
+use Rattle.std.proofs.Math.Seq.{drop-cons}
+use Rattle.std.proofs.Math.ListN.{drop_of_length-le}
+use Rattle.std.proofs.lemmas.List.{take_all, take_min}
+use Rattle.std.specs.Prelude.{Result}
+use Rattle.refusals.specs.declared.Refusal.{Refusal}
+use Rattle.buffers.specs.Written.{written_at}
+use Rattle.cues.specs.declared.Cue.{Cue}
+use Rattle.buffers.proofs.Rest.{Parts}
 use Rattle.cues.specs.Cue.{cue_of}
 use Rattle.cue_texts.specs.CueText.{cue_text}
-use Rattle.scripts.specs.Script.{keys_in}
 use Rattle.scripts.specs.ScriptText.{text_of}
 
--- ---- the keys of a table
-pub keys_counted : (words : List ℕ) (n : ℕ) → length (keys_in words n) ≡ min n (min 256 (length words))
-keys_counted words n = omega (arith, length-take n (take 256 words), length-take 256 words)
+pub text_more : (ks : List ℕ) (i : ℕ) → i < length ks
+    → text_of (drop i ks) ≡ cue_text (cue_of (get_or ks i 0)) ++ text_of (drop (i + 1) ks)
+unfolding text_of
+text_more ks i h = rw (drop-cons ks i 0 h, add-one)
 
-pub keys_at_most : (words : List ℕ) (n : ℕ) → length (keys_in words n) ≤ 256
-keys_at_most words n = omega (arith, keys_counted words n)
+pub text_more_length : (ks : List ℕ) (i : ℕ) → i < length ks
+    → length (text_of (drop i ks)) ≡ length (cue_text (cue_of (get_or ks i 0))) + length (text_of (drop (i + 1) ks))
+text_more_length ks i h =
+    ap length (text_more ks i h) ∙ length-append (cue_text (cue_of (get_or ks i 0))) (text_of (drop (i + 1) ks))
 
-pub keys_taken : (words : List ℕ) (n : ℕ) → take (length (keys_in words n)) words ≡ keys_in words n
-keys_taken words n =
-    let m = min n (length (take 256 words)) in
-    ap (λ (k : ℕ). take k words) (length-take n (take 256 words))
-    ∙ (sym (take-take m 256 words (omega (arith, length-take 256 words))) ∙ take_min n (take 256 words))
-
--- a table of at most 256 keys has no others
-pub all_keys : (keys : List ℕ) → length keys ≤ 256 → keys_in keys (length keys) ≡ keys
-all_keys keys h =
-    let t : take 256 keys ≡ keys = take_all 256 keys h in
-    rw t (take_all (length keys) keys (omega arith))
-
--- ---- one cue more
-module _ (ks : List ℕ) (i : ℕ) (h : i < length ks) where
-  pub text_more : text_of (drop i ks) ≡ cue_text (cue_of (get_or ks i 0)) ++ text_of (drop (i + 1) ks)
-  unfolding text_of
-  text_more = rw (drop-cons ks i 0 h, add-one)
-
-  pub text_more_length : length (text_of (drop i ks))
-      ≡ length (cue_text (cue_of (get_or ks i 0))) + length (text_of (drop (i + 1) ks))
-  text_more_length = ap length text_more ∙ length-append (cue_text (cue_of (get_or ks i 0))) (text_of (drop (i + 1) ks))
-
-  pub text_more_stored : (buf mid : List ℕ) (at end : ℕ) → end ≡ at + length (cue_text (cue_of (get_or ks i 0)))
-      → mid ≡ sets buf at (cue_text (cue_of (get_or ks i 0)))
-      → sets mid end (text_of (drop (i + 1) ks)) ≡ sets buf at (text_of (drop i ks))
-  text_more_stored buf mid at end ee em =
-      rw (ee, em, text_more) (sym (sets-append (cue_text (cue_of (get_or ks i 0))) (text_of (drop (i + 1) ks)) buf at))
+pub text_parts : (ks : List ℕ) (i : ℕ) (c : Cue) → c ≡ cue_of (get_or ks i 0) → i < length ks
+    → Parts (text_of (drop i ks)) (cue_text c) (text_of (drop (i + 1) ks))
+text_parts ks i c e h = record { are = rw e (text_more ks i h) }
 
 pub text_end : (ks : List ℕ) (i : ℕ) → length ks ≤ i → text_of (drop i ks) ≡ []
 unfolding text_of
 text_end ks i h = rw (drop_of_length-le ks h)
+
+pub few_taken : (n : ℕ) (ks : List ℕ) → n ≡ min (length ks) 256 → take n ks ≡ take 256 ks
+few_taken n ks e = rw e (ap (λ (m : ℕ). take m ks) (min_comm (length ks) 256) ∙ take_min 256 ks)
+
+-- what is written of the first 256 keys is written of all, where there are no more
+pub written_whole : (buf ks : List ℕ) (at : ℕ) {mid first : List ℕ} {r : Result ℕ Refusal} → first ≡ take 256 ks
+    → (r, mid) ≡ written_at buf at (text_of first)
+    → record {
+      written : (r, mid) ≡ written_at buf at (text_of (take 256 ks));
+      whole : length ks ≤ 256 → (r, mid) ≡ written_at buf at (text_of ks);
+    }
+written_whole buf ks at {mid} {first} q w =
+    let by = λ (l : List ℕ). written_at buf at (text_of l) in
+    record { written = w ∙ ap by q; whole = λ h. w ∙ ap by (q ∙ take_all 256 ks h) }
+
+pub ruleset take_rules = (few_taken, take_all)
+
+pub ruleset text_rules = (text_more_length, text_end)

@@ -4,9 +4,8 @@
 // beside it stay. No public function has a `requires`.
 #![tactic(auto)]
 
-ghost use Rattle.std.specs.Prelude.{◌≡◌, ◌≤◌, length};
+ghost use Rattle.std.specs.Prelude.{◌≡◌, ◌≤◌, length, take};
 ghost use Rattle.buffers.specs.Written.{written_at};
-ghost use Rattle.scripts.specs.Script.{keys_in};
 ghost use Rattle.scripts.specs.ScriptText.{text_of};
 
 use buffers::fits;
@@ -15,65 +14,56 @@ use cues::Cue;
 use refusals::Refusal;
 use scripts::Script;
 
-// How many keys a table has: n, but never more than its words or 256.
-#[tactic(auto, using(crate::proofs::Laws::keys_counted))]
-pub fn key_count(keys: &[u64], n: usize) -> usize
-    ensures counted { result ≡ length (keys_in keys.now n) }
-    ensures at_most_256 { result ≤ 256 }
-    ensures in_table { result ≤ length keys.now }
+// The keys of a table: all of them, but never more than 256, so that no length of their text can wrap.
+#[tactic(auto, using(crate::proofs::Laws::take_rules))]
+fn first_keys(keys: &[u64]) -> &[u64]
+    ensures first { result.now ≡ take 256 keys.now }
+    ensures few { length result.now ≤ 256 }
+    ensures whole { length keys.now ≤ 256 → result.now ≡ keys.now }
 {
-    n.min(keys.len()).min(256)
+    &keys[..keys.len().min(256)]
 }
 
-// The keys of a table: its first n words, but never more than 256.
-#[tactic(auto, using(crate::proofs::Laws::keys_taken))]
-fn keys_in(keys: &[u64], n: usize) -> &[u64]
-    ensures { result.now ≡ keys_in keys.now n }
-{
-    &keys[..key_count(keys, n)]
-}
-
-// How many bytes the lines of a table's cues have.
-pub fn cues_length(keys: &[u64], n: usize) -> usize
-    ensures counted { result ≡ length (text_of (keys_in keys.now n)) }
+// How many bytes the lines of a table's cues have, of the first 256.
+#[tactic(auto, using(crate::proofs::Laws::text_rules))]
+pub fn cues_length(keys: &[u64]) -> usize
+    ensures counted { result ≡ length (text_of (take 256 keys.now)) }
+    ensures whole { length keys.now ≤ 256 → result ≡ length (text_of keys.now) }
     ensures at_most { result ≤ 16128 }
 {
-    let counted = keys_in(keys, n);
     let mut sum = 0;
-    for key in counted {
+    for key in first_keys(keys) {
         sum += cue_length(Cue::of_key(*key));
     }
     sum
 }
 
-// Writes the lines of the cues in a table, its first n words, at a place of the buffer, if they fit there.
-pub fn write_cues(buf: &mut [u8], at: usize, keys: &[u64], n: usize) -> Result<usize, Refusal>
-    ensures { (result, buf.new) ≡ written_at buf.old at (text_of (keys_in keys.now n)) }
+// Writes the lines of a table's cues, of the first 256, at a place of the buffer, if they fit there.
+#[tactic(auto, using(buffers::proofs::Rest::no_room_left))]
+pub fn write_cues(buf: &mut [u8], at: usize, keys: &[u64]) -> Result<usize, Refusal>
+    ensures written { (result, buf.new) ≡ written_at buf.old at (text_of (take 256 keys.now)) }
+    ensures whole { length keys.now ≤ 256 → (result, buf.new) ≡ written_at buf.old at (text_of keys.now) }
 {
-    if !fits(buf.len(), at, cues_length(keys, n)) {
+    if !fits(buf.len(), at, cues_length(keys)) {
         return Err(Refusal::BufferTooShort);
     }
     let mut end = at;
-    for key in keys_in(keys, n) {
+    for key in first_keys(keys) {
         end = write_cue(buf, end, Cue::of_key(*key))?;
     }
     Ok(end)
 }
 
 // How many bytes the normal form of a script has.
-#[tactic(auto, using(crate::proofs::Laws::all_keys))]
 pub fn script_length(script: Script) -> usize
     ensures { result ≡ length (text_of script) }
 {
-    let keys = script.keys();
-    cues_length(keys, keys.len())
+    cues_length(script.keys())
 }
 
 // Writes the normal form of a script to the front of the buffer, if it fits there.
-#[tactic(auto, using(crate::proofs::Laws::all_keys))]
 pub fn write_script(buf: &mut [u8], script: Script) -> Result<usize, Refusal>
     ensures { (result, buf.new) ≡ written_at buf.old 0 (text_of script) }
 {
-    let keys = script.keys();
-    write_cues(buf, 0, keys, keys.len())
+    write_cues(buf, 0, script.keys())
 }

@@ -1,5 +1,5 @@
 -- A script text, read: the cues of its lines, or the row that it meets. Cues are held by their keys. Assumes nothing.
-use Rattle.std.specs.Prelude.{ℕ, ◌+◌, if◌then◌else◌, List, [], ◌∷◌, nat_lt, length, take, Result, Ok, Err}
+use Rattle.std.specs.Prelude.{ℕ, ◌+◌, if◌then◌else◌, List, [], ◌∷◌, nat_lt, length, Result, Ok, Err}
 use Rattle.refusals.specs.declared.Refusal.{Refusal}
 use Rattle.refusals.specs.declared.Refusal.TheVariants.{ScriptFull, TextTooLong}
 use Rattle.refusals.specs.declared.RefusedText.{RefusedText}
@@ -8,10 +8,6 @@ use Rattle.cues.specs.Cue.{key_of}
 use Rattle.cues.specs.declared.Cue.{Cue}
 use Rattle.cue_lines.specs.CueLine.{cue_line_of}
 use Rattle.tables.specs.Table.{member_of, insert_of}
-
--- the keys of a table: its first n words, and never more than 256
-abbrev pub keys_in : List ℕ → ℕ → List ℕ
-keys_in words n = take n (take 256 words)
 
 -- what one more cue does to those read so far: a repeated cue is kept once; a 257th different cue meets 11
 abbrev pub by_key : List ℕ → ℕ → Result (List ℕ) Refusal

@@ -8,7 +8,7 @@ use lib.ListN.{length, length-append, length-drop}
 use borrow.Author.Tests.{ltb-false}
 use Rattle.refusals.specs.Refusal.{refusal_number}
 use Rattle.refusals.specs.declared.Refusal.{Refusal}
-use Rattle.refusals.specs.declared.Refusal.TheVariants.{Malformed as MalformedLine, Blocked, TextTooLong}
+use Rattle.refusals.specs.declared.Refusal.TheVariants.{Malformed as MalformedLine, Blocked, CueOutOfRange, TextTooLong}
 use Rattle.lines.specs.Ascii.{bytes}
 use Rattle.lines.specs.Lines.{up_to, lines_of}
 use Rattle.lines.proofs.Laws.{lines_append}
@@ -101,7 +101,8 @@ performed_at_most d e begin = omega arith
 performed_at_most d e commit = omega arith
 performed_at_most d e abort = omega arith
 performed_at_most d e roll_back = unwound_at_most d e (transaction d e).log
-performed_at_most d e (call b c) = reply_at_most (reply c d.state)
+performed_at_most d e (call None) = refusal_at_most CueOutOfRange
+performed_at_most d e (call (Some c)) = reply_at_most (reply c d.state)
 
 decided_at_most : (o : Option Refusal) (d : Store) (e : ℕ) (a : Action)
     → length (answer_text (decided o d e a).answer) ≤ 40

@@ -3,7 +3,7 @@ use Rattle.std.proofs.Common.{◌≡◌, ℕ, zero, suc, ◌≤◌, List, [], le
 use Rattle.std.proofs.lemmas.List.{take_all}
 use Rattle.std.specs.Prelude.{Result, Ok, Err}
 use Rattle.refusals.specs.declared.RefusedText.{RefusedText}
-use Rattle.scripts.specs.Script.{keys_in, script_of, script_or_empty}
+use Rattle.scripts.specs.Script.{script_of, script_or_empty}
 use Rattle.boosting.specs.Object.{State}
 use Rattle.boosting.specs.Store.{Transaction, closed_transaction, started, opened}
 use Rattle.boosting.specs.Room.{reserved_by, reserved_in, takes_by, takes_in}
@@ -60,7 +60,3 @@ pub accepted-Sound : (s : State) (ts : List Transaction) (keys script text : Lis
     → ts ≡ replicate 8 closed_transaction → keys ≡ script → Ok script ≡ script_of text → Sound (record { state = s; transactions = ts })
 accepted-Sound s ts keys script text q r p is =
     opened-Sound s ts keys text q r (accepted_keys (script_of text) keys script p is)
-
--- a table of no more than 256 keys holds them all
-pub keys_all : (l keys : List ℕ) → keys ≡ l → length l ≤ 256 → keys_in keys (length keys) ≡ l
-keys_all l keys q h = rw (q, take_all 256 l h, take_all (length l) l (omega arith)) refl

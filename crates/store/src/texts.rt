@@ -13,31 +13,27 @@ impl Store {
     pub fn script_length(&self) -> usize
         ensures { result ≡ length (text_of self.now.state.script) }
     {
-        let script = self.object.script();
-        cues_length(script, script.len())
+        cues_length(self.object.script())
     }
 
     // How many bytes the queue's lines have.
     pub fn queue_length(&self) -> usize
         ensures { result ≡ length (text_of self.now.state.queue) }
     {
-        let queue = self.object.queue();
-        cues_length(queue, queue.len())
+        cues_length(self.object.queue())
     }
 
     // Writes the script's lines, if they fit.
     pub fn write_script(&self, buf: &mut [u8], at: usize) -> Result<usize, Refusal>
         ensures { (result, buf.new) ≡ written_at buf.old at (text_of self.now.state.script) }
     {
-        let script = self.object.script();
-        write_cues(buf, at, script, script.len())
+        write_cues(buf, at, self.object.script())
     }
 
     // Writes the queue's lines, if they fit.
     pub fn write_queue(&self, buf: &mut [u8], at: usize) -> Result<usize, Refusal>
         ensures { (result, buf.new) ≡ written_at buf.old at (text_of self.now.state.queue) }
     {
-        let queue = self.object.queue();
-        write_cues(buf, at, queue, queue.len())
+        write_cues(buf, at, self.object.queue())
     }
 }

@@ -1,7 +1,7 @@
 -- What is left to write gives the whole.
 use Rattle.lock_listing.specs.Listed.{locks_text}
 use Rattle.lock_listing.proofs.Listings.{locks_from}
-use Rattle.lock_listing.proofs.Rest.{Left}
+use Rattle.buffers.proofs.Rest.{Left}
 use Rattle.lock_listing.proofs.write_locks.Given as goal
 
 abbrev pub invariant-loop-key : goal.invariant-loop-key
