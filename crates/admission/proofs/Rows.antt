@@ -28,18 +28,22 @@ use Rattle.boosting.specs.Room.{locks_full}
 use Rattle.boosting.specs.Rows.{when, call_rows, first_met}
 use Rattle.admission.specs.Answers.{admitted, room_rows, store_of}
 
--- the transaction of a number stands at the place before it; a part of it is that part of the number's transaction
+-- the transaction of a number stands at the place before it: what locks and log are there are its own
 module _ (s : State) (ts : List Transaction) (e i : ℕ) (t : Transaction) (p : i + 1 ≡ e) (h : i < length ts) where
-  pub transaction-place : transaction (store_of s ts) e ≡ get_or ts i t
+  place : transaction (store_of s ts) e ≡ get_or ts i t
   unfolding transaction
-  transaction-place = rw (← p, add-one) (get_or_default ts i closed_transaction t h)
+  place = rw (← p, add-one) (get_or_default ts i closed_transaction t h)
 
-  pub part-place : {A : Type 0} (part : Transaction → A) (x : A) → x ≡ part (get_or ts i t) → part (transaction (store_of s ts) e) ≡ x
-  part-place part x q = ap part transaction-place ∙ sym q
+  pub locks_at : (l : Locks) → l ≡ (get_or ts i t).locks → (transaction (store_of s ts) e).locks ≡ l
+  locks_at l q = ap (λ (t : Transaction). t.locks) place ∙ sym q
+
+  pub log_at : (l : List Entry) → l ≡ (get_or ts i t).log → (transaction (store_of s ts) e).log ≡ l
+  log_at l q = ap (λ (t : Transaction). t.log) place ∙ sym q
 
 -- rows 10 to 12 come behind 8 and 9: what they say is the call's answer
-module _ (d : Store) (e : ℕ) (c : Call) (l : Lock) (le : l ≡ lock_of c) (free : None ≡ blocker e l 1 d.transactions) (ls : Locks)
-    (is : (transaction d e).locks ≡ ls) (h : false ≡ locks_full l ls) (n : Option Entry) (ne : n ≡ entry_of c (reply c d.state)) where
+module _ (d : Store) (e : ℕ) (c : Call) (l : Lock) (le : l ≡ lock_of c)
+    (free : None ≡ blocker e l 1 d.transactions) (ls : Locks) (is : (transaction d e).locks ≡ ls)
+    (h : false ≡ locks_full l ls) (n : Option Entry) (ne : n ≡ entry_of c (reply c d.state)) where
   pub behind : first_met (call_rows d e c) ≡ first_met (room_rows d e n)
   unfolding first_met
   behind = rw (← le, ← free, is, ← h, ne) refl

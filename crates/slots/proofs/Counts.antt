@@ -1,6 +1,6 @@
 -- Entries and take entries, counted transaction by transaction; no log keeps more slots than it has entries. Assumes
 -- nothing.
-use Rattle.std.proofs.Common.{◌≡◌, ℕ, ◌+◌, ◌<◌, ◌≤◌, List, [], ◌∷◌, length, get_or, drop, refl, sym, ap, ◌∙◌, arith}
+use Rattle.std.proofs.Common.{◌≡◌, ℕ, ◌+◌, ◌<◌, ◌≤◌, List, [], ◌∷◌, length, get_or, drop, refl, arith}
 use Rattle.std.proofs.lemmas.List.{drop_more, drop_all}
 use Rattle.tables.proofs.Laws.{length_once}
 use Rattle.boosting.specs.Undo.{Entry, added, removed, pushed, taken}

@@ -1,33 +1,8 @@
 -- The script's slots, put into a table entry by entry and transaction by transaction. Assumes nothing.
-use Rattle.std.proofs.Common.{
-  ◌≡◌,
-  ℕ,
-  suc,
-  ◌+◌,
-  ◌-◌,
-  ◌<◌,
-  ◌≤◌,
-  Bool,
-  false,
-  not,
-  List,
-  [],
-  ◌∷◌,
-  ◌++◌,
-  length,
-  get_or,
-  take,
-  drop,
-  reverse,
-  refl,
-  sym,
-  ap,
-  ◌∙◌,
-  arith,
-}
-use Rattle.std.specs.Prelude.{Option, Some}
+use Rattle.std.proofs.Common.{◌≡◌, ℕ, ◌+◌, ◌-◌, ◌<◌, ◌≤◌, false, not, List, [], ◌∷◌, length, get_or, take, drop, reverse, refl, sym, ap, ◌∙◌, arith}
+use Rattle.std.specs.Prelude.{Some}
 use Rattle.std.proofs.lemmas.Bool.{lt-leb, le-leb}
-use Rattle.std.proofs.lemmas.List.{take_more, take_all, drop_more, drop_all, reverse-append}
+use Rattle.std.proofs.lemmas.List.{take_more, drop_more, drop_all, reverse-append}
 use Rattle.tables.specs.Table.{member_of, put_once_of}
 use Rattle.tables.proofs.Laws.{split, length_once}
 use Rattle.boosting.specs.Undo.{Entry, added, removed, pushed, taken}

@@ -14,11 +14,10 @@ ghost use Rattle.transactions.specs.Steps.{accepted, unwound_once};
 mod number;
 
 use held_locks::HeldLocks;
+pub use number::TransactionNumber;
 use std::marker::Model;
 use undo_logs::UndoLog;
 use vocabulary::{Entry, Lock, Standing};
-
-pub use number::TransactionNumber;
 
 #[derive(Drop)]
 pub struct Transaction {

@@ -1,4 +1,4 @@
-use Rattle.std.proofs.Common.{List, ℕ, length, ap, ◌∙◌, arith}
+use Rattle.std.proofs.Common.{List, length, ap, ◌∙◌, arith}
 use Rattle.boosting.specs.Room.{reserved_by}
 use Rattle.boosting.specs.Undo.{Entry}
 use Rattle.slots.proofs.Reserved.{in_none, in_next}
