@@ -98,7 +98,9 @@ module _ (keep : Bool) (buf₀ : List ℕ) (d₀ : Store) (ls₀ : List (List �
         (record {
           room = rest_room keep buf _ _ _ end e mid next p₁ next_left.room;
           store = ap (λ (x : Run). x.store) (sym (run_more d line rest)) ∙ next_left.store;
-          printed = λ last after z. next_left.printed last after (both_printed keep buf _ _ _ end e mid next p₁ after last z);
+          printed =
+              λ last after z.
+              next_left.printed last after (both_printed keep buf _ _ _ end e mid next p₁ after last z);
         })
 
   -- no line left
