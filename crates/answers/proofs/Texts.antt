@@ -100,7 +100,9 @@ rows =
 
 -- a comma behind the first digit: 8, and the edit in the way
 abbrev refusal_back : List ℕ → Refusal
-refusal_back l = cond (eqb (get_or l 1 0) 44) (Blocked (number_to 10 (drop 2 l))) (get_or rows (number_to 10 l - 1) BufferTooShort)
+refusal_back l =
+    cond (eqb (get_or l 1 0) 44) (Blocked (number_to 10 (drop 2 l)))
+    (get_or rows (number_to 10 l - 1) BufferTooShort)
 
 blocked_fields : (e : ℕ) → refusal_text (Blocked e) ≡ bytes "refused,8," ++ (digits_of e ++ 10 ∷ [])
 unfolding refusal_text record_text digits_at

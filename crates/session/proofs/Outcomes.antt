@@ -71,7 +71,8 @@ part_prints d input from v =
     ap (λ (x : List ℕ). run_text d (lines_of x)) (take_all (length input - from) (drop from input) n) ∙ v.prints
 
 -- ---- the answers of a run, and behind them the closing lists of the store that is recovered
-pub run_parts : (d : Store) (ls : List (List ℕ)) → run_text d ls ≡ answer_lines d ls ++ closing_text (recovered d ls).state
+pub run_parts : (d : Store) (ls : List (List ℕ))
+    → run_text d ls ≡ answer_lines d ls ++ closing_text (recovered d ls).state
 unfolding run_text
 run_parts d ls = refl
 

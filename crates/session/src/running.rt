@@ -47,6 +47,7 @@ pub fn session_length(input: &[u8]) -> usize
 
 // Writes what the program prints for an input to the front of the buffer, if it fits there. A buffer of `ROOM` bytes
 // holds every output; a shorter one costs a second run of the session, which counts the bytes.
+#[tactic(auto, using(buffers::proofs::Laws::too_short, crate::proofs::Fitting::output_fits))]
 pub fn run_session(buf: &mut [u8], input: &[u8]) -> Result<usize, Refusal>
     ensures { (result, buf.new) ≡ written_at buf.old 0 (output_of input.now) }
 {
