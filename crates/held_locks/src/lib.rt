@@ -127,6 +127,7 @@ impl HeldLocks {
 
     // Whether a cue lock with this key is held.
     #[tactic(auto, using(crate::proofs::Searches::search_rules))]
+    #[inline(always)]
     pub fn holds_cue(&self, key: u64) -> bool
         ensures { result ≡ member_of key self.now.cues }
     {
