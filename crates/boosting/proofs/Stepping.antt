@@ -54,16 +54,17 @@ module _ (start : State) (g : Good start) (d : Store) (pending : ℕ → List It
           cut_keeps start g d pending settled e v ok (inverse n d.state) _ t.q t.p t.parts (cc (t.top)) (λ k. cc)
           (λ k. cc) (λ k. refl) (λ k. sym t.under)
 
-  -- an accepted action
-  pub perform_keeps : (a : Action) → Accepts d e a
-      → Invariant start (perform d e a).store (λ f. since f (request e a) (item_of d e) (pending f))
+  -- what is to hold after an accepted action, and holds
+  abbrev After : Action → Type 0
+  After a =
+      Invariant start (perform d e a).store (λ f. since f (request e a) (item_of d e) (pending f))
       (committed (request e a) pending settled)
+
+  pub perform_keeps : (a : Action) → Accepts d e a → After a
   unfolding perform accept
   perform_keeps a h = go a h (accepted_valid d e a h) (accepted_standing d e a h)
     where
-      go : (a : Action) → Accepts d e a → valid e ≡ true → (transaction d e).standing ≡ asks a
-          → Invariant start (perform d e a).store (λ f. since f (request e a) (item_of d e) (pending f))
-          (committed (request e a) pending settled)
+      go : (a : Action) → Accepts d e a → valid e ≡ true → (transaction d e).standing ≡ asks a → After a
       go begin h ok st = begin_keeps start g d pending settled e v ok st
       go commit h ok st = commit_keeps start g d pending settled e v ok st
       go abort h ok st = abort_keeps ok st
