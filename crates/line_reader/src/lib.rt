@@ -5,7 +5,7 @@
 // crate assumes nothing of its own.
 #![tactic(auto)]
 
-ghost use Rattle.std.specs.Prelude.{◌≡◌, MatchOption};
+ghost use Rattle.std.specs.Prelude.{◌≡◌, ◌≤◌, MatchOption, length};
 ghost use Rattle.std.specs.Iterator.{YieldsFirstRef, item_count};
 ghost use Rattle.lines.specs.Line.{line_at};
 ghost use Rattle.lines.specs.Lines.{lines_of};
@@ -21,11 +21,13 @@ pub struct LineReader<'a> {
 impl<'a> LineReader<'a> {
     ghost use Rattle.line_reader.specs.Reader.{lines_left, Taken, TookLine, TookNone};
 
-    // A reader at the start of the text.
+    // A reader at the start of the text, which has no more lines than bytes.
+    #[tactic(auto, using(crate::proofs::Left::lines_at_most))]
     pub fn new(text: &'a [u8]) -> LineReader<'a>
         ensures same_text { result.text ≡ text.entry }
         ensures at_start { result.at ≡ 0 }
         ensures every_line { lines_left result ≡ lines_of text.now }
+        ensures few { length (lines_left result) ≤ length text.now }
     {
         LineReader { text, at: 0 }
     }
