@@ -1,5 +1,6 @@
 -- Laws of the lines from a reader's place on. Assumes nothing.
-use Rattle.std.proofs.Common.{◌≡◌, ℕ, ◌+◌, ◌≤◌, List, [], ◌∷◌, length, suc, nat_eq, Bool, true, false, cond, arith, Bor, ap}
+use Rattle.std.proofs.Common.{◌≡◌, ℕ, suc, ◌+◌, ◌≤◌, nat_eq, Bool, true, false, cond, List, [], ◌∷◌, length, Bor}
+use Rattle.std.proofs.Common.{ap, arith}
 use Rattle.lines.specs.declared.Line.{Line}
 use Rattle.lines.specs.Line.{FirstLine}
 use Rattle.lines.specs.Lines.{onto, lines_of}
