@@ -16,8 +16,8 @@ use shared_object::SharedObject;
 use word_lines::write_number_line;
 
 // How many bytes a list has: the word and the count of the keys with LF, then their cue lines. The lists are written
-// whole or not at all, so they are counted first. One function over a counter and a writer would be no plainer: it needs
-// a trait of two methods with two impls, for two functions of a line or two.
+// whole or not at all, so they are counted first. One function over a counter and a writer would be no plainer: it
+// needs a trait of two methods with two impls, for two functions of a line or two.
 #[tactic(auto, using(crate::proofs::Fitting::list_length))]
 fn list_length(word: &[u8], keys: &[u64]) -> usize
     requires { length keys.now ≤ 256 }
