@@ -15,13 +15,16 @@ use script_texts::{cues_length, write_cues};
 use shared_object::SharedObject;
 use word_lines::write_number_line;
 
-// How many bytes a list has: the word and the count of the keys with LF, then their cue lines.
+// How many bytes a list has: the word and the count of the keys with LF, then their cue lines. The lists are written
+// whole or not at all, so they are counted first. One function over a counter and a writer would be no plainer: it
+// needs a trait of two methods with two impls, for two functions of a line or two.
 #[tactic(auto, using(crate::proofs::Fitting::list_length))]
 fn list_length(word: &[u8], keys: &[u64]) -> usize
     requires { length keys.now ≤ 256 }
     ensures counted { result ≡ length (list_text word.now keys.now) }
     ensures at_most { result ≤ length word.now + 16149 }
 {
+    // `as`: u64 has no `From<usize>`
     word.len() + digit_count(keys.len() as u64) + 1 + cues_length(keys)
 }
 
@@ -40,6 +43,7 @@ fn write_list(buf: &mut [u8], at: usize, word: &[u8], keys: &[u64]) -> Result<us
     requires has_room { at + length (list_text word.now keys.now) ≤ length buf.old }
     ensures { (result, buf.new) ≡ written_at buf.old at (list_text word.now keys.now) }
 {
+    // `as`: u64 has no `From<usize>`
     let middle = write_number_line(buf, at, word, keys.len() as u64)?;
     write_cues(buf, middle, keys)
 }

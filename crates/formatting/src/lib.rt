@@ -38,6 +38,7 @@ pub fn write_report(buf: &mut [u8], text: &[u8]) -> Result<usize, Refusal>
             0,
             b"refused",
             refused.refusal.number(),
+            // `as`: u64 has no `From<usize>`
             refused.line as u64,
         ),
     }

@@ -1,3 +1,3 @@
--- Laws and the theorem; the folders beside them hold the proofs of the functions. Assumes nothing.
+-- Laws and the theorem; the folder beside them holds the proof of the function. Assumes nothing.
 pub mod Division
 pub mod Texts

@@ -1,15 +1,15 @@
--- Texts, line by line: an induction, and the line at a place. Assumes nothing.
+-- Texts, line by line: an induction. Assumes nothing.
 use mathlib.Core.Path.{◌≡◌, refl, sym, ap, ◌∙◌, subst}
 use mathlib.Core.Bool.{Bool, true, false}
 use mathlib.Core.List.{List, [], ◌∷◌, ◌++◌}
-use Prim.Native.Nat.{ℕ, zero, suc, ◌+◌, ◌-◌, ◌≤◌, ◌<◌}
+use Prim.Native.Nat.{ℕ, zero, suc, ◌≤◌, ◌<◌}
 use native.Mathlib.Omega.{arith}
 use lib.Dec.{eqb}
-use lib.ListN.{length, take, drop, drop_of_length-le, length-append}
-use lib.Seq.{take_all, length-take-le}
+use lib.ListN.{length, drop_of_length-le, length-append}
+use lib.Seq.{take_all}
 use borrow.Author.Tests.{eqb-true}
 use Rattle.lines.specs.Lines.{up_to, lines_of}
-use Rattle.lines.proofs.Laws.{up_le, lines_cons}
+use Rattle.lines.proofs.Laws.{lines_cons}
 
 -- a line with its LF and what stands behind it; or a line that no LF ends
 pub data Cut (s : List ℕ) : Type 0 where
@@ -53,10 +53,3 @@ lines_one (b ∷ bs) h u =
     let n : length (b ∷ bs) ≤ suc (length (b ∷ bs)) = omega arith in
     lines_cons b bs
     ∙ rw (u, take_all (length (b ∷ bs)) (b ∷ bs) (omega arith), drop_of_length-le (b ∷ bs) n)
-
--- the line at a place, as the code cuts it out
-pub line_length : (s : List ℕ) (at end : ℕ) → end ≡ at + up_to 10 (drop at s)
-    → length (take (end - at) (drop at s)) ≡ end - at
-line_length s at end e =
-    let d : end - at ≡ up_to 10 (drop at s) = omega arith in
-    length-take-le (end - at) (drop at s) (omega (arith, up_le 10 (drop at s)))

@@ -3,10 +3,10 @@
 use Rattle.std.specs.Prelude.{ℕ, ◌+◌, Bool, if◌then◌else◌, List, [], ◌∷◌, length, take, drop}
 use Rattle.lines.specs.Ascii.{bytes}
 use Rattle.lines.specs.Lines.{lines_of}
-use Rattle.same_bytes.specs.Same.{same}
+use Rattle.std.specs.Str.{bytes_eq}
 
 abbrev pub is_steps : List ℕ → Bool
-is_steps l = same l (bytes "steps")
+is_steps l = bytes_eq l (bytes "steps")
 
 -- where the first line `steps` begins, each line before it with its LF; behind the last line where there is none
 unfoldable pub steps_place : List (List ℕ) → ℕ

@@ -9,15 +9,18 @@ ghost use Rattle.inputs.specs.Division.{steps_place};
 
 use buffers::fits;
 use line_reader::LineReader;
-use same_bytes::same_bytes;
+
+// The line that divides an input.
+const STEPS: &[u8] = b"steps";
 
 // Where the first line `steps` begins; the end of the input where there is none.
+#[tactic(auto, using(crate::proofs::Division::search_rules))]
 pub fn find_steps(input: &[u8]) -> usize
     ensures { result ≡ min (steps_place (lines_of input.now)) (length input.now) }
 {
     let mut reader = LineReader::new(input);
     while let Some(line) = reader.take_line() {
-        if same_bytes(&input[line.start..line.end], b"steps") {
+        if &input[line.start..line.end] == STEPS {
             return line.start;
         }
     }

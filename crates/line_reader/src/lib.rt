@@ -5,7 +5,7 @@
 // crate assumes nothing of its own.
 #![tactic(auto)]
 
-ghost use Rattle.std.specs.Prelude.{◌≡◌};
+ghost use Rattle.std.specs.Prelude.{◌≡◌, ◌≤◌, MatchOption, length};
 ghost use Rattle.std.specs.Iterator.{YieldsFirstRef, item_count};
 ghost use Rattle.lines.specs.Line.{line_at};
 ghost use Rattle.lines.specs.Lines.{lines_of};
@@ -19,21 +19,25 @@ pub struct LineReader<'a> {
 }
 
 impl<'a> LineReader<'a> {
-    ghost use Rattle.line_reader.specs.Reader.{lines_left, Taken};
+    ghost use Rattle.line_reader.specs.Reader.{lines_left, Taken, TookLine, TookNone};
 
-    // A reader at the start of the text.
+    // A reader at the start of the text, which has no more lines than bytes.
+    #[tactic(auto, using(crate::proofs::Left::lines_at_most))]
     pub fn new(text: &'a [u8]) -> LineReader<'a>
         ensures same_text { result.text ≡ text.entry }
         ensures at_start { result.at ≡ 0 }
         ensures every_line { lines_left result ≡ lines_of text.now }
+        ensures few { length (lines_left result) ≤ length text.now }
     {
         LineReader { text, at: 0 }
     }
 
     // Where the line at the reader's place lies; and the place moves on behind it. At or past the end there is no line,
     // and the place stays.
+    #[tactic(auto, using(crate::proofs::Left::took))]
     pub fn take_line(&mut self) -> Option<Line>
-        ensures { Taken self.old self.new result }
+        ensures taken { Taken self.old self.new result }
+        ensures found { MatchOption result (TookNone self.old self.new) (λ line. TookLine self.old self.new line) }
     {
         let line = next_line(self.text, self.at)?;
         self.at = line.next;

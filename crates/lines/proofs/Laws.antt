@@ -3,15 +3,16 @@
 use mathlib.Core.Path.{◌≡◌, refl, ap, ◌∙◌}
 use mathlib.Core.Bool.{Bool, true, false, cond}
 use mathlib.Core.List.{List, [], ◌∷◌, ◌++◌}
-use Prim.Native.Nat.{ℕ, suc, ◌+◌, ◌≤◌, ◌<◌}
+use Prim.Native.Nat.{ℕ, suc, ◌+◌, ◌-◌, ◌≤◌, ◌<◌}
 use native.Mathlib.Omega.{arith}
 use native.Mathlib.Numerals.{add-one}
 use native.Mathlib.Decide.{dec_lt}
 use mathlib.Core.Logic.{◌⊎◌, inl, inr}
 use lib.Dec.{eqb}
-use lib.ListN.{length, get_or, take, drop, drop_of_length-le, length-append}
-use lib.Seq.{drop-cons, drop-drop, take-append_seam, drop-append-add}
+use lib.ListN.{length, get_or, take, drop, drop_of_length-le, length-append, length-drop}
+use lib.Seq.{drop-cons, drop-drop, take-append_seam, drop-append-add, length-take-le}
 use borrow.Author.Tests.{eq-eqb, ne_eqb}
+use Rattle.lines.specs.Line.{FirstLine, NoLine, line_to}
 use Rattle.lines.specs.Lines.{up_to, onto, lines_of}
 
 -- ---- from a place of a text on: the separator, another byte, the end
@@ -69,6 +70,25 @@ lines_next s at h =
     let e : at + up_to 10 (drop at s) + 1 ≡ at + suc (up_to 10 (drop at s)) = omega arith in
     rw (e, ← drop-drop (suc (up_to 10 (drop at s))) at s)
     (rw (drop-cons s at 0 h) (lines_cons (get_or s at 0) (drop (suc at) s)))
+
+-- what reading a line at a place finds
+pub first_line : (s : List ℕ) (at end : ℕ) → at < length s → end ≡ at + up_to 10 (drop at s)
+    → FirstLine s at (line_to at end)
+first_line s at end h e =
+    let u = up_to 10 (drop at s) in
+    let n : end - at ≡ u = omega arith in
+    let w : at + u ≤ length s = omega (arith, up_le 10 (drop at s), length-drop at s) in
+    let l : length (take u (drop at s)) ≡ u = length-take-le u (drop at s) (up_le 10 (drop at s)) in
+    record {
+      is_first = rw (n, e) (lines_next s at h);
+      place = ap (line_to at) (omega (arith, ap (λ (m : ℕ). length (take m (drop at s))) n));
+      within = omega arith;
+    }
+
+pub no_line : (s : List ℕ) (at : ℕ) → length s ≤ at → NoLine s at
+no_line s at h = record { none = lines_end s at h; at_end = h }
+
+pub ruleset line_rules = (first_line, no_line)
 
 -- a number is below another or not
 pub lt_or_ge : (a b : ℕ) → (a < b) ⊎ (b ≤ a)

@@ -6,9 +6,9 @@
 // nothing of its own.
 #![tactic(auto)]
 
-ghost use Rattle.std.specs.Prelude.{◌≡◌, ◌+◌, ◌≤◌, max, length, drop};
+ghost use Rattle.std.specs.Prelude.{◌≡◌, ◌+◌, ◌≤◌, max, length, drop, MatchOption};
 ghost use Rattle.lines.specs.Lines.{up_to};
-ghost use Rattle.lines.specs.Line.{line_at};
+ghost use Rattle.lines.specs.Line.{FirstLine, NoLine, line_at};
 
 // What ends a line.
 pub const LF: u8 = b'\n';
@@ -38,8 +38,10 @@ pub fn find_byte(s: &[u8], at: usize, sep: u8) -> usize
 }
 
 // The line that starts at a place of the text; none at or past its end.
+#[tactic(auto, using(crate::proofs::Laws::line_rules))]
 pub fn next_line(text: &[u8], at: usize) -> Option<Line>
-    ensures { result ≡ line_at text.now at }
+    ensures is_line { result ≡ line_at text.now at }
+    ensures found { MatchOption result (NoLine text.now at) (λ line. FirstLine text.now at line) }
 {
     if at >= text.len() {
         return None;

@@ -18,8 +18,8 @@ use records::LineBuffer;
 use refusals::Refusal;
 use transactions::Transaction;
 
-// How many bytes the line of a cue lock has. Many are counted before they are written, so the line is not composed for
-// it.
+// How many bytes the line of a cue lock has. The listing is written whole or not at all, so all are counted first, and
+// counting composes no line.
 #[tactic(auto, using(crate::proofs::Listings::lock_line_counted))]
 fn lock_length(e: u64, key: u64) -> usize
     ensures counted { result ≡ length (lock_line e key) }
@@ -88,6 +88,7 @@ pub fn listing_length(transactions: &[Transaction; 8]) -> usize
 {
     let mut sum = 0;
     for (i, transaction) in transactions.iter().enumerate() {
+        // `as`: u64 has no `From<usize>`
         sum += locks_length(i as u64 + 1, transaction.locks());
     }
     sum
@@ -120,6 +121,7 @@ pub fn write_listing(
     }
     let mut end = at;
     for (i, transaction) in transactions.iter().enumerate() {
+        // `as`: u64 has no `From<usize>`
         end = write_locks(buf, end, i as u64 + 1, transaction.locks())?;
     }
     Ok(end)

@@ -6,22 +6,20 @@ use mathlib.Core.List.{List, [], ◌∷◌, ◌++◌}
 use mathlib.Core.Logic.{⊎_elim}
 use Prim.Native.Nat.{ℕ, zero, suc, ◌+◌, ◌-◌, ◌≤◌, ◌<◌}
 use native.Mathlib.Nat.{sub_self, add-sub_cancel_left}
-use native.Mathlib.Numerals.{sub-one}
 use native.Mathlib.Omega.{arith}
 use lib.Dec.{eqb}
-use lib.ListN.{length, get_or, take, drop, length-append, get_or-append, get_or-eq_default}
-use lib.Seq.{get_or-append-add}
+use lib.ListN.{length, get_or, take, drop, length-append, get_or-append}
+use lib.Seq.{get_or-append-add, take-append_seam, drop-append-add, take-take}
+use Rattle.std.proofs.lemmas.Bool.{cases_lt}
+use Rattle.std.proofs.lemmas.List.{drop-take, get_or_past}
 use denote.Ref.{Bor}
-use Rattle.lines.specs.Lines.{up_to, lines_of}
+use Rattle.lines.specs.Lines.{lines_of}
 use Rattle.lines.specs.Theorems.{joined, closed}
-use Rattle.lines.proofs.Laws.{lt_or_ge, lines_next, lines_end}
 use Rattle.lines.proofs.Theorems.{lines_joined}
-use Rattle.numbered_lines.specs.Numbered.{seek, in_start, in_steps}
+use Rattle.numbered_lines.specs.Numbered.{Stretch, seek, in_start, in_steps, numbered}
 use Rattle.numbered_lines.specs.Theorems.{start_of, end_of, NumberedBytes, NumberedPlaces, LineWithin}
-use Rattle.std.specs.Prelude.{Result, Ok, Err}
+use Rattle.std.specs.Prelude.{Ok, Err}
 use Rattle.lines.specs.Line.{line_to}
-use Rattle.lines.specs.declared.Line.{Line}
-use Rattle.numbered_lines.proofs.Seek.{behind, seek_zero, seek_more, seek_none}
 
 -- ---- its place
 -- the place of a line, and how many are left to count where there are too few
@@ -94,43 +92,62 @@ line_within s k h =
     omega (arith, closed-length s, before_end (lines_of s) k h, ap length (lines_joined s))
 
 -- ---- and its bytes
--- what was found is line k of ls, or there are too few
-abbrev Right : List ℕ → List (List ℕ) → ℕ → Result Line ℕ → Type 0
-Right s ls k (Ok line) = (k < length ls) × (take (line.end - line.start) (drop line.start s) ≡ get_or ls k [])
-Right s ls k (Err j) = k ≡ length ls + j
+joined_at : (ls : List (List ℕ)) (k : ℕ) → k < length ls
+    → take (length (get_or ls k [])) (drop (length (joined (take k ls))) (joined ls)) ≡ get_or ls k []
+unfolding joined
+joined_at [] k h = absurd (omega arith)
+joined_at (l ∷ ls) zero h = take-append_seam l (10 ∷ joined ls)
+joined_at (l ∷ ls) (suc k) h =
+    let j = joined (take k ls) in
+    let n : length (l ++ 10 ∷ j) ≡ length l + suc (length j) = length-append l (10 ∷ j) in
+    rw (n, drop-append-add l (10 ∷ joined ls) (suc (length j))) (joined_at ls k (omega arith))
 
-further : (s l : List ℕ) (ls : List (List ℕ)) (j : ℕ) (r : Result Line ℕ) → Right s ls j r → Right s (l ∷ ls) (suc j) r
-further s l ls j (Ok line) h = (omega arith, h.1)
-further s l ls j (Err m) h = omega arith
+closed_front : (s : List ℕ) → take (length s) (closed s) ≡ s
+unfolding closed
+closed_front [] = refl
+closed_front (b ∷ []) = by_test (eqb b 10)
+  where
+    by_test : (t : Bool) → take 1 (cond t (b ∷ []) (b ∷ 10 ∷ [])) ≡ b ∷ []
+    by_test true = refl
+    by_test false = refl
+closed_front (b ∷ c ∷ bs) = ap (λ (l : List ℕ). b ∷ l) (closed_front (c ∷ bs))
 
-right : (s : List ℕ) (k at : ℕ) → Right s (lines_of (drop at s)) k (seek at (lines_of (drop at s)) k)
-right s zero at =
-    ⊎_elim
-    (λ h. rw (seek_zero s at 0 h refl, lines_next s at h)
-    (omega arith, ap (λ (m : ℕ). take m (drop at s)) (add-sub_cancel_left at (up_to 10 (drop at s)))))
-    (λ h. rw (seek_none s at 0 h, lines_end s at h) refl)
-    (lt_or_ge at (length s))
-right s (suc j) at =
-    ⊎_elim
-    (λ h.
-    let to = behind s at in
-    rw (seek_more s at (suc j) h (λ e. omega arith), sub-one)
-    (rw (lines_next s at h)
-    (further s (take (up_to 10 (drop at s)) (drop at s)) (lines_of (drop to s)) j (seek to (lines_of (drop to s)) j)
-    (right s j to))))
-    (λ h. rw (seek_none s at (suc j) h, lines_end s at h) (omega arith))
-    (lt_or_ge at (length s))
+bytes_of : (s : List ℕ) (k : ℕ) → k < length (lines_of s)
+    → take (end_of s k - start_of s k) (drop (start_of s k) s) ≡ get_or (lines_of s) k []
+bytes_of s k h =
+    let i = start_of s k in
+    let n = length (get_or (lines_of s) k []) in
+    let j = joined (lines_of s) in
+    let all : s ≡ take (i + (length s - i)) j =
+    sym (ap (λ (m : ℕ). take m j) (omega (arith, line_within s k h)) ∙ (ap (take (length s)) (lines_joined s) ∙ closed_front s)) in
+    ap (λ (t : List ℕ). take (i + n - i) (drop i t)) all
+    ∙ rw (drop-take i (length s - i) j, add-sub_cancel_left i n)
+    (take-take n (length s - i) (drop i j) (omega (arith, line_within s k h)) ∙ joined_at (lines_of s) k h)
 
-bytes_steps : (y : Bor (List ℕ)) (k : ℕ) (r : Result Line ℕ) → Right y.now (lines_of y.now) k r
-    → (in_steps y r).1 ≡ get_or (lines_of y.now) k []
-bytes_steps y k (Ok line) h = h.1
-bytes_steps y k (Err j) h = rw sub_self (sym (get_or-eq_default (lines_of y.now) [] {n = k} (omega arith)))
+steps_bytes : (start steps : Bor (List ℕ)) (j : ℕ)
+    → (numbered start steps (suc (length (lines_of start.now) + j))).1 ≡ get_or (lines_of steps.now) j []
+steps_bytes start steps j = ⊎_elim here past (cases_lt j (length (lines_of steps.now)))
+  where
+    here : j < length (lines_of steps.now) → (numbered start steps (suc (length (lines_of start.now) + j))).1 ≡ get_or (lines_of steps.now) j []
+    here h = ap (λ (x : Stretch). x.1) ((numbered_places start steps).in_steps j h) ∙ bytes_of steps.now j h
 
-bytes_start : (x y : Bor (List ℕ)) (k : ℕ) (r : Result Line ℕ) → Right x.now (lines_of x.now) k r
-    → (in_start x y r).1 ≡ get_or (lines_of x.now ++ lines_of y.now) k []
-bytes_start x y k (Ok line) h = h.1 ∙ sym (get_or-append (lines_of x.now) (lines_of y.now) [] k h.0)
-bytes_start x y k (Err j) h =
-    bytes_steps y j (seek 0 (lines_of y.now) j) (right y.now j 0) ∙ rw (h, get_or-append-add)
+    past : length (lines_of steps.now) ≤ j → (numbered start steps (suc (length (lines_of start.now) + j))).1 ≡ get_or (lines_of steps.now) j []
+    past h =
+        let q : j ≡ length (lines_of steps.now) + (j - length (lines_of steps.now)) = omega arith in
+        ap (λ (x : ℕ). (numbered start steps (suc (length (lines_of start.now) + x))).1) q
+        ∙ (ap (λ (x : Stretch). x.1) ((numbered_places start steps).past_end (j - length (lines_of steps.now)))
+        ∙ (rw sub_self (sym (get_or_past (lines_of steps.now) j [] h))))
 
 pub numbered_bytes : NumberedBytes
-numbered_bytes start steps k = bytes_start start steps k (seek 0 (lines_of start.now) k) (right start.now k 0)
+numbered_bytes start steps k = ⊎_elim here later (cases_lt k (length (lines_of start.now)))
+  where
+    here : k < length (lines_of start.now) → (numbered start steps (suc k)).1 ≡ get_or (lines_of start.now ++ lines_of steps.now) k []
+    here h =
+        ap (λ (x : Stretch). x.1) ((numbered_places start steps).in_start k h)
+        ∙ (bytes_of start.now k h ∙ sym (get_or-append (lines_of start.now) (lines_of steps.now) [] k h))
+
+    later : length (lines_of start.now) ≤ k → (numbered start steps (suc k)).1 ≡ get_or (lines_of start.now ++ lines_of steps.now) k []
+    later h =
+        let j = k - length (lines_of start.now) in
+        let q : k ≡ length (lines_of start.now) + j = omega arith in
+        rw q (steps_bytes start steps j ∙ sym (get_or-append-add (lines_of start.now) (lines_of steps.now) j []))

@@ -12,6 +12,7 @@ use line_reader::LineReader;
 use lines::Line;
 
 // The line k of one text, counted from 0; or, where the text has too few lines, how many are left to count.
+#[tactic(auto, using(crate::proofs::Seek::seek_rules))]
 fn seek_line(text: &[u8], k: usize) -> Result<Line, usize>
     ensures is_the_line { result ≡ seek 0 (lines_of text.now) k }
     ensures within { Within text.now result }

@@ -24,7 +24,8 @@ fn first_keys(keys: &[u64]) -> &[u64]
     &keys[..keys.len().min(256)]
 }
 
-// How many bytes the lines of a table's cues have, of the first 256.
+// How many bytes the lines of a table's cues have, of the first 256. They are written whole or not at all, so they are
+// counted first, and counting composes no line.
 #[tactic(auto, using(crate::proofs::Laws::text_rules))]
 pub fn cues_length(keys: &[u64]) -> usize
     ensures counted { result ≡ length (text_of (take 256 keys.now)) }

@@ -23,33 +23,28 @@ use Rattle.scripts.specs.Script.{by_key, by_line, refused_at, read_from, script_
 pub key_full : (t : List ℕ) (k : ℕ) → length t ≡ 256 → member_of k t ≡ false → Err ScriptFull ≡ by_key t k
 key_full t k h e = rw (e, le-ltb (length t) 256 (omega (arith, h))) refl
 
+-- where a full table has the key, one without it has room
+short : (t : List ℕ) (k : ℕ) → length t ≤ 256 → (length t ≡ 256 → member_of k t ≡ true) → member_of k t ≡ false
+    → length t < 256
+short t k h there e =
+    split (ltb (length t) 256) (λ q. ltb-true _ _ q)
+    (λ q.
+    let full : length t ≡ 256 = omega (arith, h, ltb-false _ _ q) in
+    absurd (both_ways _ e (there full)))
+
 -- a key that is there, or finds room, is put in once
 pub key_taken : (t : List ℕ) (k : ℕ) → length t ≤ 256 → (length t ≡ 256 → member_of k t ≡ true) → Ok (put_once_of k t) ≡ by_key t k
 unfolding put_once_of
 key_taken t k h there =
     split (member_of k t) (λ e. rw e refl)
-    (λ e. rw (e, lt-ltb (length t) 256 (short e)) refl)
-  where
-    short : member_of k t ≡ false → length t < 256
-    short e =
-        split (ltb (length t) 256) (λ q. ltb-true _ _ q)
-        (λ q.
-        let full : length t ≡ 256 = omega (arith, h, ltb-false _ _ q) in
-        absurd (both_ways _ e (there full)))
+    (λ e. rw (e, lt-ltb (length t) 256 (short t k h there e)) refl)
 
 -- and so there is room for it
 pub key_room : (t : List ℕ) (k : ℕ) → length t ≤ 256 → (length t ≡ 256 → member_of k t ≡ true) → length (put_once_of k t) ≤ 256
 unfolding put_once_of
 key_room t k h there =
     split (member_of k t) (λ e. rw e h)
-    (λ e. rw e (omega (arith, length_insert k t, short e)))
-  where
-    short : member_of k t ≡ false → length t < 256
-    short e =
-        split (ltb (length t) 256) (λ q. ltb-true _ _ q)
-        (λ q.
-        let full : length t ≡ 256 = omega (arith, h, ltb-false _ _ q) in
-        absurd (both_ways _ e (there full)))
+    (λ e. rw e (omega (arith, length_insert k t, short t k h there e)))
 
 pub ruleset key_rules = (key_full, key_taken, key_room)
 
@@ -99,3 +94,5 @@ too_long s h = rw (lt-ltb _ _ h)
 pub not_long : (s : List ℕ) → length s ≤ 65536 → script_of s ≡ read_from 1 [] (lines_of s)
 unfolding script_of
 not_long s h = rw (le-ltb _ _ h)
+
+pub ruleset text_rules = (too_long, not_long)

@@ -80,6 +80,7 @@ fn take_lines(keys: &mut SortedKeys<256>, text: &[u8]) -> Result<(), RefusedText
 }
 
 // The script of a text; or the first row that it meets, with the line.
+#[tactic(auto, using(crate::proofs::ReadLaws::text_rules))]
 pub fn read_script(text: &[u8]) -> Result<Script, RefusedText>
     ensures { result ≡ script_of text.now }
 {

@@ -13,7 +13,6 @@ use Rattle.cue_texts.specs.CueText.{cue_text}
 use Rattle.tables.specs.Table.{member_of, insert_of, delete_of, put_once_of}
 use Rattle.scripts.specs.Script.{read_from, script_of}
 use Rattle.scripts.specs.ScriptText.{text_of}
-use Rattle.same_bytes.specs.Same.{same}
 use Rattle.step_words.specs.Word.{word_of}
 use Rattle.answers.specs.Answer.{refusal_text}
 use Rattle.boosting.specs.Object.{effect, reply}
@@ -53,7 +52,7 @@ examples =
 pub examples_hold :
     map (λ (e : List ℕ × List ℕ). output_of e.0) examples ≡ map (λ (e : List ℕ × List ℕ). e.1) examples
 unfolding up_to onto lines_of digits_at value_from number_of record_text fields_of cue_text member_of insert_of delete_of
-    put_once_of read_from script_of text_of same word_of refusal_text effect reply entry_of inverse lock_of no_locks
+    put_once_of read_from script_of text_of word_of refusal_text effect reply entry_of inverse lock_of no_locks
     hold conflicts closed_transaction open_transaction started opened transaction put blocker reserved_by
     reserved_in takes_by takes_in first_met refusal_of accept perform step_on step_line advance run_from roll_backs
     recover_one recover rising steps_place start_text step_list answers_text closing_text run_text output_of

@@ -1,6 +1,7 @@
--- The invariant: the first line `steps` from here on is the first of all.
-use Rattle.std.proofs.Common.{drop, length, ◌+◌, ◌-◌, ◌≡◌, ◌≤◌}
+-- The first line `steps` of those that are left is the first of all.
+use Rattle.std.proofs.Common.{length, ◌+◌, ◌≡◌}
 use Rattle.inputs.specs.Division.{steps_place}
+use Rattle.line_reader.specs.Reader.{lines_left}
 use Rattle.lines.specs.Lines.{lines_of}
 use Rattle.inputs.proofs.find_steps.Given as goal
 
@@ -8,9 +9,8 @@ abbrev pub invariant-loop-line : goal.invariant-loop-line
 invariant-loop-line l =
     record {
       same_text : l.reader.text.now ≡ l.input;
-      within : l.reader.at ≤ length l.input + 1;
-      so_far : l.reader.at + steps_place (lines_of (drop l.reader.at l.input)) ≡ steps_place (lines_of l.input);
+      so_far : l.reader.at + steps_place (lines_left l.reader) ≡ steps_place (lines_of l.input);
     }
 
 abbrev pub decreases-loop-line : goal.decreases-loop-line
-decreases-loop-line l = length l.input + 1 - l.reader.at
+decreases-loop-line l = length (lines_left l.reader)

@@ -2,7 +2,6 @@ use Rattle.std.proofs.Common.{arith, length, sym, ap, inl, ℕ, ◌+◌, ◌∙�
 use Rattle.std.specs.Iterator.Adapters.{enumerate_source, enumerate_count}
 use Rattle.lines.specs.Lines.{lines_of}
 use Rattle.line_reader.specs.Reader.{lines_left}
-use Rattle.line_reader.proofs.Left.{lines_at_most}
 use Rattle.scripts.specs.Script.{refused_at, read_from}
 use Rattle.scripts.proofs.ReadLaws.{read_end, read_on_lem, read_refused}
 use Rattle.scripts.proofs.reading.take_lines.Goals as goal
@@ -22,7 +21,7 @@ from_none c =
 few_to_come : (c : After-into_iter-index-iterator)
     → enumerate_count c.into_iter-index-iterator.result + length (lines_left (enumerate_source c.into_iter-index-iterator.result))
     ≤ length c.args.text.now
-few_to_come c = omega (arith, ap length (all_to_come c), from_none c, lines_at_most c.args.text.now)
+few_to_come c = omega (arith, ap length (all_to_come c), from_none c, ap length c.new.ensures.every_line, c.new.ensures.few)
 
 pub loop-index-init-derived : goal.loop-index-init-derived
 loop-index-init-derived c = ((tt, tt, inl (omega (arith, few_to_come c))), tt)

@@ -1,2 +1,0 @@
--- The definition that the contract cites. Assumes nothing.
-pub mod Same
