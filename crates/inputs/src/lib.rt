@@ -19,6 +19,7 @@ pub fn find_steps(input: &[u8]) -> usize
     ensures { result ≡ min (steps_place (lines_of input.now)) (length input.now) }
 {
     let mut reader = LineReader::new(input);
+    // No `for`: the reader's iterator gives a line's bytes, and here its place is wanted.
     while let Some(line) = reader.take_line() {
         if &input[line.start..line.end] == STEPS {
             return line.start;

@@ -19,6 +19,7 @@ fn seek_line(text: &[u8], k: usize) -> Result<Line, usize>
 {
     let mut reader = LineReader::new(text);
     let mut left = k;
+    // No `for`: the reader's iterator gives a line's bytes, and here the stretch itself is promised.
     while let Some(line) = reader.take_line() {
         if left == 0 {
             return Ok(line);

@@ -45,6 +45,7 @@ pub fn entry_of(call: Call, reply: Reply) -> Option<Entry>
     }
 }
 
+// What a reply is on an answer line. No `From`: both types are of other crates.
 pub fn answer_of(reply: Reply) -> Answer
     ensures { result ≡ answer_of reply }
 {

@@ -3,7 +3,8 @@
 // Where twelve bytes fit, as the longest short line has, its bytes are stored straight: no more tests of the room, and
 // no digits counted. The compiler makes one store of the bytes of each `put_bytes`. Any other line is left to
 // `answers`, which could write all of them: tried, and steps that mostly wait took a quarter longer, which misses the
-// desk's bar. Only a place is answered, which stays in a register. The public function has no `requires`.
+// desk's bar. Only a place is answered, which stays in a register. The public function has no `requires`; that twelve
+// bytes fit stands in those of private ones, each of which would take a type of buffer and place apart again.
 #![tactic(auto)]
 
 ghost use Rattle.std.specs.Prelude.{◌≡◌, ◌∷◌, ◌++◌, ◌+◌, ◌≤◌, ◌<◌, length};

@@ -36,8 +36,8 @@ fn rank_by_bits(keys: &[u64], key: u64) -> usize
     low + if_below(keys[low], key, 1)
 }
 
-// For keys of any size. It stands beside the other because each is right where the other is not: that one asks for keys
-// below 2^63, and this one, the library's, branches and misses the desk's bar.
+// For keys of any size, by the library's search. Alone it was tried: it branches, and reading a script takes 1.02 of
+// plain Rust's time with it and 0.64 so, where the bar is 0.8.
 fn rank_by_branches(keys: &[u64], key: u64) -> usize
     requires { Ordered 0 keys.now }
     ensures { result ≡ rank_of key keys.now }

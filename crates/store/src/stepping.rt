@@ -17,7 +17,8 @@ use steps::{Step, read_step};
 use transactions::TransactionNumber;
 use vocabulary::{Action, Call, Request, Standing};
 
-// What a word asks for that has only the transaction's number behind it.
+// What a word asks for that has only the transaction's number behind it. No `From`, here and below: the types are of
+// other crates.
 fn number_action(word: NumberWord) -> Action
     ensures { result ≡ number_action word }
 {

@@ -1,5 +1,5 @@
 // The cue lines of the script and of the queue, in rising order, written at a place of a lent buffer: whole or not at
-// all.
+// all. A type that says which of the two is meant would make these four lines no shorter.
 ghost use Rattle.std.specs.Prelude.{◌≡◌, length};
 ghost use Rattle.buffers.specs.Written.{written_at};
 ghost use Rattle.scripts.specs.ScriptText.{text_of};
