@@ -1,8 +1,8 @@
 // A short line, composed on the stack before it is written: so that all of it is written or nothing, and its bytes are
 // counted nowhere else.
 //
-// Memory is fixed, so it is an array with its length; the kit's `ArrayVec` appends bytes with an error to handle, which a
-// line that has room cannot meet.
+// Memory is fixed, so it is an array with its length; the kit's `ArrayVec` appends bytes with an error to handle, which
+// a line that has room cannot meet.
 ghost use Rattle.std.specs.Prelude.{◌≡◌, ◌+◌, ◌≤◌, ℕ, List, [], ◌∷◌, ◌++◌, length, take};
 ghost use Rattle.digits.specs.Digits.{digits_of};
 ghost use Rattle.records.specs.Record.{field_text};
