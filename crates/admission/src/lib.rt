@@ -2,6 +2,7 @@
 //
 // The search for a lock in the way (`conflicts`) comes first, and the count of slots (`slots`) last, as the rows do. A
 // function leaves at the first row that is met. Nothing is changed. The rows before these are in the store's own match.
+// Object and transactions are two parameters: they are the two fields of the store, which stands above.
 #![tactic(auto)]
 
 ghost use Rattle.std.specs.Prelude.{◌≡◌};

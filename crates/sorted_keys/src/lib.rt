@@ -67,7 +67,7 @@ impl<const N: usize> SortedKeys<N> {
         self.keys.clear();
     }
 
-    // Takes these keys in place of its own.
+    // Takes these keys in place of its own. Their order is asked for, since a slice has no invariant.
     pub fn copy_from(&mut self, keys: &[u64])
         requires fits { length keys.now ≤ N }
         requires in_order { Ordered 0 keys.now }
