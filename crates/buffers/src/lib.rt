@@ -5,8 +5,8 @@
 // answer is refusal 14 and every byte of the buffer stays. Bytes beside the text always stay.
 // No public function has a `requires`.
 //
-// Buffer and place are two parameters and no struct: a writer answers the place behind its bytes, which its caller hands
-// on, and a struct that lends the buffer would be taken apart for that at each of them.
+// Buffer and place are two parameters and no struct: a writer answers the place behind its bytes, which its caller
+// hands on, and a struct that lends the buffer would be taken apart for that at each of them.
 #![tactic(auto)]
 
 ghost use Rattle.std.specs.Prelude.{◌≡◌, ◌+◌, ◌++◌, nat_le, length};

@@ -2,8 +2,8 @@
 // a closing LF adds no empty line.
 //
 // Here a place in the text is a plain number: a rule of the project wants a function on slice and number under the line
-// reader. `line_reader` keeps the text and its place in one record, and `numbered_lines` finds a line of two texts by its number. No public function has a `requires`, and the crate assumes
-// nothing of its own.
+// reader. `line_reader` keeps the text and its place in one record, and `numbered_lines` finds a line of two texts by
+// its number. No public function has a `requires`, and the crate assumes nothing of its own.
 #![tactic(auto)]
 
 ghost use Rattle.std.specs.Prelude.{◌≡◌, ◌+◌, ◌≤◌, max, length, drop, MatchOption};

@@ -1,8 +1,8 @@
 // Where a key stands in a sorted slice, or would stand: its rank, which is how many keys are below it.
 //
 // In which half it is cannot be guessed, so the search does not branch on it where all keys are below 2^63; the order
-// says that they are where the last one is. For larger keys there is the library's search. The order
-// is asked for, since a slice has no invariant.
+// says that they are where the last one is. For larger keys there is the library's search. The order is
+// asked for, since a slice has no invariant.
 ghost use Rattle.std.specs.Prelude.{◌≡◌, ◌-◌, ◌^◌, ◌<◌, ◌≤◌, if◌then◌else◌, nat_lt, length, slice_index};
 ghost use Rattle.tables.specs.Table.{Ordered, rank_of, member_of};
 
