@@ -16,7 +16,6 @@ ghost use Rattle.short_answers.specs.Appended.{appended_at};
 
 use answers::{Answer, write_answer};
 use buffers::fits;
-use records::write_record;
 use refusals::Refusal;
 use word_lines::{write_cue_line, write_number_line};
 
@@ -28,77 +27,44 @@ fn put_bytes<const N: usize>(buf: &mut [u8], at: usize, bytes: &[u8; N])
     buf[at..at + N].copy_from_slice(bytes);
 }
 
-// The comma, the digit of n and the LF that end a line, at a place where they fit.
+// The digit of n and the LF that end a line, at a place where they fit.
 #[tactic(auto, using(crate::proofs::ShortLines::end_stored))]
 fn put_last_digit(buf: &mut [u8], at: usize, n: u64)
-    requires has_room { at + 3 ≤ length buf.old }
+    requires has_room { at + 2 ≤ length buf.old }
     requires one_digit { n < 10 }
-    ensures { buf.new ≡ placed buf.old at (44 ∷ field_text n 10) }
+    ensures { buf.new ≡ placed buf.old at (field_text n 10) }
 {
-    // `u8::try_from` would have an error to handle, which a number below 10 has not. Three stores: a
-    // short array of them would be read back before it is stored.
-    buf[at] = b',';
-    buf[at + 1] = b'0' + n as u8;
-    buf[at + 2] = b'\n';
+    // `u8::try_from` would have an error to handle, which a number below 10 has not. Two stores: a short array of them
+    // would be read back before it is stored.
+    buf[at] = b'0' + n as u8;
+    buf[at + 1] = b'\n';
 }
 
-// Appends a word and the last number of its line, of one digit, where twelve bytes fit.
-fn append_digit<const N: usize>(buf: &mut [u8], at: usize, word: &[u8; N], n: u64) -> usize
+// Appends a word, which ends with its comma, and a number with its LF where twelve bytes fit.
+fn append_number<const N: usize>(buf: &mut [u8], at: usize, word: &[u8; N], n: u64) -> usize
     requires has_room { at + 12 ≤ length buf.old }
-    requires short { N ≤ 9 }
-    requires one_digit { n < 10 }
-    ensures { (result, buf.new) ≡ appended_at buf.old at (word.now ++ 44 ∷ field_text n 10) }
-{
-    put_bytes(buf, at, word);
-    put_last_digit(buf, at + N, n);
-    at + N + 3
-}
-
-// Appends the line `left,n` with its LF where twelve bytes fit.
-fn append_left(buf: &mut [u8], at: usize, n: u64) -> usize
-    requires { at + 12 ≤ length buf.old }
-    ensures { (result, buf.new) ≡ appended_at buf.old at (bytes "left," ++ field_text n 10) }
+    requires short { N ≤ 10 }
+    ensures { (result, buf.new) ≡ appended_at buf.old at (word.now ++ field_text n 10) }
 {
     if n < 10 {
-        return append_digit(buf, at, b"left", n);
+        put_bytes(buf, at, word);
+        put_last_digit(buf, at + N, n);
+        return at + N + 2;
     }
-    write_number_line(buf, at, b"left,", n).unwrap_or(at)
-}
-
-// Appends the line `refused,n` with its LF where twelve bytes fit.
-fn append_row(buf: &mut [u8], at: usize, n: u64) -> usize
-    requires { at + 12 ≤ length buf.old }
-    ensures { (result, buf.new) ≡ appended_at buf.old at (row_text n) }
-{
-    if n < 10 {
-        return append_digit(buf, at, b"refused", n);
-    }
-    write_number_line(buf, at, b"refused,", n).unwrap_or(at)
-}
-
-// Appends the line `refused,8,e` with its LF where twelve bytes fit.
-#[tactic(auto, unfolding(digits::specs::Digits::digits_at, records::specs::Record::record_text))]
-fn append_blocked(buf: &mut [u8], at: usize, e: u64) -> usize
-    requires { at + 12 ≤ length buf.old }
-    ensures { (result, buf.new) ≡ appended_at buf.old at (record_text (bytes "refused") 8 e) }
-{
-    if e < 10 {
-        return append_digit(buf, at, b"refused,8", e);
-    }
-    write_record(buf, at, b"refused", 8, e).unwrap_or(at)
+    write_number_line(buf, at, word, n).unwrap_or(at)
 }
 
 // Appends the line of a refusal with its LF where twelve bytes fit.
-#[tactic(auto, unfolding(answers::specs::Answer::refusal_text))]
+#[tactic(auto, unfolding(answers::specs::Answer::refusal_text, digits::specs::Digits::digits_at, records::specs::Record::record_text))]
 fn append_refusal(buf: &mut [u8], at: usize, refusal: Refusal) -> usize
     requires { at + 12 ≤ length buf.old }
     ensures { (result, buf.new) ≡ appended_at buf.old at (refusal_text refusal) }
 {
     if let Refusal::Blocked(e) = refusal {
         // A `usize` has no `From` into `u64`.
-        return append_blocked(buf, at, e as u64);
+        return append_number(buf, at, b"refused,8,", e as u64);
     }
-    append_row(buf, at, refusal.number())
+    append_number(buf, at, b"refused,", refusal.number())
 }
 
 // Appends the line of an answer with its LF where twelve bytes fit.
@@ -126,7 +92,7 @@ fn append_in_room(buf: &mut [u8], at: usize, answer: Answer) -> usize
         }
         Answer::Cue(cue) => write_cue_line(buf, at, cue).unwrap_or(at),
         // A `usize` has no `From` into `u64`.
-        Answer::Left(n) => append_left(buf, at, n as u64),
+        Answer::Left(n) => append_number(buf, at, b"left,", n as u64),
         Answer::Refused(refusal) => append_refusal(buf, at, refusal),
     }
 }
