@@ -11,8 +11,10 @@ use Rattle.std.specs.Result.{result_unwrap_or}
 use Rattle.refusals.specs.declared.Refusal.{Refusal}
 use Rattle.buffers.specs.Written.{placed}
 use Rattle.buffers.proofs.Laws.{sets-append, written}
+use Rattle.lines.specs.Ascii.{bytes}
+use Rattle.digits.specs.Digits.{digits_at}
 use Rattle.digits.proofs.Laws.{digits_small}
-use Rattle.records.specs.Record.{field_text}
+use Rattle.records.specs.Record.{field_text, record_text}
 use Rattle.short_answers.specs.Appended.{appended_at}
 
 -- the number's one digit
@@ -40,3 +42,8 @@ digit_line buf m₁ m₂ word at n k ek h w d e₁ e₂ =
     let all : m₂ ≡ sets buf at (word ++ number) = s₂ ∙ rw (s₁, ← ek) (sym (sets-append word number buf at)) in
     ap (λ (p : Result ℕ Refusal × List ℕ). (result_unwrap_or p.0 at, p.1))
     (written buf m₂ (word ++ number) at (at + k + 2) (omega arith) (omega arith) all)
+
+-- `refused,8,` is the word of a refusal 8
+pub blocked_line : (e : ℕ) → record_text (bytes "refused") 8 e ≡ bytes "refused,8," ++ field_text e 10
+unfolding record_text digits_at
+blocked_line e = refl

@@ -55,7 +55,7 @@ fn append_number<const N: usize>(buf: &mut [u8], at: usize, word: &[u8; N], n: u
 }
 
 // Appends the line of a refusal with its LF where twelve bytes fit.
-#[tactic(auto, unfolding(answers::specs::Answer::refusal_text, digits::specs::Digits::digits_at, records::specs::Record::record_text))]
+#[tactic(auto, using(crate::proofs::ShortLines::blocked_line), unfolding(answers::specs::Answer::refusal_text))]
 fn append_refusal(buf: &mut [u8], at: usize, refusal: Refusal) -> usize
     requires { at + 12 ≤ length buf.old }
     ensures { (result, buf.new) ≡ appended_at buf.old at (refusal_text refusal) }
