@@ -157,11 +157,6 @@ call_line w e c n = record {
 }
 
 -- ---- what a look answers
-rest_earlier : (before t s : List ℕ) (at q : ℕ) (r : Option Scanned) → q ≡ at + length t → Stands s at t
-    → RestFits (before ++ t) s q r → RestFits before s at r
-rest_earlier before t s at q (Some r) e h c = earlier before t s at q r e h c
-rest_earlier before t s at q None e h c = tt
-
 -- a number and a byte before
 pub rest_field : (before s : List ℕ) (at most b : ℕ) (v : Short) (r : Option Scanned) → ShortStands s at most v
     → at + v.digits < length s → get_or s (at + v.digits) 0 ≡ b
