@@ -20,10 +20,7 @@ pub fn format_script(buf: &mut [u8], text: &[u8]) -> Result<usize, RefusedText>
     ensures { (result, buf.new) ≡ format_of text.now buf.old }
 {
     let script = read_script(text)?;
-    match write_script(buf, script) {
-        Ok(end) => Ok(end),
-        Err(refusal) => Err(RefusedText { refusal, line: 0 }),
-    }
+    write_script(buf, script).map_err(|refusal| RefusedText { refusal, line: 0 })
 }
 
 // Writes what the formatter prints of a text: its normal form, or the line `refused,n,line`.

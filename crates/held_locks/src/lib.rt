@@ -1,7 +1,7 @@
 // The locks that a transaction holds: cue locks, each once and at most 24, and the queue's modes.
 //
-// Clauses see them as the model's `Locks`. The sieve, a word with a bit for each cue lock, is no part of that: it rules
-// most keys out at a glance, and that no cue lock falls through it is the type's invariant.
+// Clauses see them as the model's `Locks`. The sieve, a word with the bit of each cue lock and no other, rules most
+// keys out at a glance; that it is the one of these locks is the type's invariant.
 #![tactic(auto)]
 
 ghost use Rattle.std.specs.Prelude.{◌≡◌, ◌<◌, ◌≤◌, ◌^◌, false, length};
@@ -9,7 +9,7 @@ ghost use Rattle.std.specs.Int.Bits.{bit_or};
 ghost use Rattle.tables.specs.Table.{member_of};
 ghost use Rattle.boosting.specs.Locks.{no_locks, hold, conflicts};
 ghost use Rattle.boosting.specs.Room.{locks_full};
-ghost use Rattle.held_locks.specs.Sieve.{sieve_bit, passes};
+ghost use Rattle.held_locks.specs.Sieve.{sieve_bit, sieve_of, passes};
 
 use arrayvec::ArrayVec;
 use std::marker::Model;
@@ -26,13 +26,14 @@ pub struct HeldLocks {
 
 impl Model for HeldLocks {
     ghost use Rattle.boosting.specs.Locks.{Locks};
-    ghost use Rattle.held_locks.specs.Sieve.{Sieved};
+    ghost use Rattle.std.specs.Prelude.{◌≡◌};
+    ghost use Rattle.held_locks.specs.Sieve.{sieve_of};
 
     ghost Value = { Locks };
 
     ghost view = { λ l. record { cues = l.cues.items; pushes = l.pushes; looks = l.looks; takes = l.takes } };
 
-    ghost invariant = { λ l. Sieved l.sieve l.cues.items };
+    ghost invariant = { λ l. l.sieve ≡ sieve_of l.cues.items };
 }
 
 // The bit of a key in the sieve: the sum of the low bits of its pin and of its time, which costs no multiplication.
@@ -62,7 +63,7 @@ fn with_bit(sieve: u64, key: u64) -> u64
 }
 
 impl HeldLocks {
-    #[tactic(auto, unfolding(boosting::specs::Locks::no_locks))]
+    #[tactic(auto, using(crate::proofs::Sieves::sieve_none), unfolding(boosting::specs::Locks::no_locks))]
     pub fn new() -> Self
         ensures { result ≡ no_locks }
     {
@@ -76,7 +77,7 @@ impl HeldLocks {
     }
 
     // Lets all locks go.
-    #[tactic(auto, unfolding(boosting::specs::Locks::no_locks))]
+    #[tactic(auto, using(crate::proofs::Sieves::sieve_none), unfolding(boosting::specs::Locks::no_locks))]
     pub fn clear(&mut self)
         ensures { self.new ≡ no_locks }
     {
@@ -120,7 +121,8 @@ impl HeldLocks {
     #[inline(always)]
     #[tactic(auto, using(crate::proofs::Sieves::sieve_rules))]
     pub fn may_hold(&self, key: u64) -> bool
-        ensures { result ≡ false → member_of key self.now.cues ≡ false }
+        ensures by_sieve { result ≡ passes (sieve_of self.now.cues) key }
+        ensures sure { result ≡ false → member_of key self.now.cues ≡ false }
     {
         passes(self.sieve, key)
     }

@@ -19,7 +19,8 @@ use steps::Step;
 // A quick look reads no byte past these: the longest plain line has 24 with its LF.
 const REACH: usize = 32;
 
-// The time at a place. This and the next look through a window, so that nothing tests for the text's end again.
+// The time at a place. This and the next look through a window, so that nothing tests for the text's end again. Each
+// calls another reader: one function over the window and the reader would be no shorter.
 fn time_at(text: &[u8], at: usize) -> Option<Short>
     requires { at + 8 ≤ length text.now }
     ensures { ShortFits text.now at 7 result }

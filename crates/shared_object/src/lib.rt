@@ -18,7 +18,8 @@ use sorted_keys::SortedKeys;
 use std::marker::Model;
 use vocabulary::{Call, Entry, Lock, Reply};
 
-// The lock that a call takes.
+// The lock that a call takes. No `From`, here and below: the definition that the clause cites is the model's, and the
+// model stands on the types of both.
 #[tactic(auto, unfolding(boosting::specs::Locks::lock_of))]
 pub fn lock_of(call: Call) -> Lock
     ensures { result ≡ lock_of call }
