@@ -48,11 +48,6 @@ module _ (d : Store) (e : ℕ) (c : Call) (l : Lock) (le : l ≡ lock_of c)
   unfolding first_met
   behind = rw (← le, ← free, is, ← h, ne) refl
 
--- the one in the way, by a number that is the transaction's
-pub by_number : (k : Lock) (ts : List Transaction) (o : Option ℕ) (n e : ℕ) → n ≡ e → o ≡ blocker n k 1 ts
-    → o ≡ blocker e k 1 ts
-by_number k ts o n e p q = q ∙ ap (λ (e : ℕ). blocker e k 1 ts) p
-
 -- a row with none behind it that is met
 pub one_row : {A : Type 0} (a : A) (b : Bool) (r : Refusal) (rows : List (Option Refusal)) → first_met rows ≡ None
     → admitted (when b r) a ≡ admitted (first_met (when b r ∷ rows)) a

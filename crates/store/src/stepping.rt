@@ -115,10 +115,8 @@ impl Store {
         let Some(step) = step else {
             return Answer::Refused(Refusal::Malformed);
         };
-        match self.try_request(request_of(step)) {
-            Ok(answer) => answer,
-            Err(refusal) => Answer::Refused(refusal),
-        }
+        self.try_request(request_of(step))
+            .unwrap_or_else(Answer::Refused)
     }
 
     // One step on a line, without its LF.

@@ -62,14 +62,6 @@ impl TransactionNumber {
         ]
     }
 
-    // The number itself.
-    #[inline(always)]
-    pub fn get(self) -> usize
-        ensures { result ≡ self }
-    {
-        self.index() + 1
-    }
-
     // Its place among the eight.
     #[inline(always)]
     pub fn index(self) -> usize

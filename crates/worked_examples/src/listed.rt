@@ -51,7 +51,7 @@ pub fn check_cases<R: Print>(rt: &R, text: &[u8]) -> Tally
     let mut met = 0;
     let mut right = 0;
     for case in Cases::new(text) {
-        right += check_case(rt, case);
+        right += u64::from(check_case(rt, case));
         met += 1;
     }
     Tally { met, right }

@@ -29,6 +29,7 @@ fn main(rt: HostRuntime) -> io::Result<()> {
     let mut text = Vec::new(rt.alloc());
     rt.reader().take(65536).read_to_end(&mut text)?;
     let listed = listed::check_cases(&rt, &text);
-    let right = listed.right + made::of_texts(&rt) + made::of_buffers(&rt);
+    let made = u64::from(made::of_texts(&rt)) + u64::from(made::of_buffers(&rt));
+    let right = listed.right + made;
     print_total(&rt, right, listed.met)
 }
