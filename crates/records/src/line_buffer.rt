@@ -2,7 +2,9 @@
 // counted nowhere else.
 //
 // Memory is fixed, so it is an array with its length; the kit's `ArrayVec` appends bytes with an error to handle, which
-// a line that has room cannot meet.
+// a line that has room cannot meet, and its `ArrayString` takes text, where words and bytes here may be any. Lines have
+// no `Display` either: what `fmt` has written where it fails, no clause says. Room is asked for at each push, since a
+// type cannot know what is still to come.
 ghost use Rattle.std.specs.Prelude.{◌≡◌, ◌+◌, ◌≤◌, ℕ, List, [], ◌∷◌, ◌++◌, length, take};
 ghost use Rattle.digits.specs.Digits.{digits_of};
 ghost use Rattle.records.specs.Record.{field_text};

@@ -1,7 +1,8 @@
 -- The numbers of the refusals, row by row of the table of what is turned away (docs/RULES.md, 4). The users' edit is a
 -- transaction here, an edit that unwinds an aborting one, the log the undo log, a place a slot. Assumes nothing.
-use Rattle.std.specs.Prelude.{ℕ}
+use Rattle.std.specs.Prelude.{ℕ, if◌then◌else◌, List, length, nat_lt, Result, Ok, Err}
 use Rattle.refusals.specs.declared.Refusal.{Refusal}
+use Rattle.refusals.specs.declared.RefusedText.{RefusedText}
 use Rattle.refusals.specs.declared.Refusal.TheVariants.{
   Malformed,
   TransactionOutOfRange,
@@ -34,3 +35,7 @@ refusal_number ScriptFull = 11  -- a 257th script place needed, by a call or by 
 refusal_number QueueFull = 12  -- a 65th queue place needed
 refusal_number TextTooLong = 13  -- script text or program input of more than 65,536 bytes
 refusal_number BufferTooShort = 14  -- lent buffer shorter than the text to write
+
+-- more than 65,536 bytes meet 13, and no line is to blame
+abbrev pub length_checked : List ℕ → Result (Unit {0}) RefusedText
+length_checked s = if nat_lt 65536 (length s) then Err (record { refusal = TextTooLong; line = 0 }) else Ok tt

@@ -5,7 +5,7 @@
 #![tactic(auto)]
 
 ghost use Rattle.std.specs.Prelude.{◌≡◌, ◌<◌};
-ghost use Rattle.refusals.specs.Refusal.{refusal_number};
+ghost use Rattle.refusals.specs.Refusal.{refusal_number, length_checked};
 
 use std::error::Error;
 use std::fmt;
@@ -54,15 +54,12 @@ impl Refusal {
     }
 }
 
-impl From<Refusal> for u64 {
-    ghost from_gives = { λ refusal number. number ≡ refusal_number refusal };
-
-    fn from(refusal: Refusal) -> u64 {
-        refusal.number()
-    }
-}
-
 impl fmt::Display for Refusal {
+    ghost use Rattle.std.specs.Prelude.{Some};
+    ghost use Rattle.refusals.specs.Message.{refusal_message};
+
+    ghost output = { λ refusal. Some (refusal_message refusal) };
+
     fn fmt<W: fmt::Write>(&self, f: &mut fmt::Formatter<W>) -> fmt::Result {
         match self {
             Refusal::Malformed => write!(f, "malformed line or unknown word"),
@@ -94,11 +91,35 @@ pub struct RefusedText {
 }
 
 impl fmt::Display for RefusedText {
+    ghost use Rattle.std.specs.Prelude.{Some};
+    ghost use Rattle.refusals.specs.Message.{refused_message};
+
+    ghost output = { λ refused. Some (refused_message refused) };
+
     fn fmt<W: fmt::Write>(&self, f: &mut fmt::Formatter<W>) -> fmt::Result {
         let refusal = self.refusal;
         let line = self.line;
+        if line == 0 {
+            return write!(f, "{refusal}");
+        }
         write!(f, "line {line}: {refusal}")
     }
 }
 
 impl Error for RefusedText {}
+
+// The most bytes that a script text or the program's input may have.
+const LIMIT: usize = 65536;
+
+// Row 13: a longer text is refused before any of its lines is looked at.
+pub fn check_length(text: &[u8]) -> Result<(), RefusedText>
+    ensures { result ≡ length_checked text.now }
+{
+    if LIMIT < text.len() {
+        return Err(RefusedText {
+            refusal: Refusal::TextTooLong,
+            line: 0,
+        });
+    }
+    Ok(())
+}

@@ -1,5 +1,5 @@
 -- Laws of reading a script, a key and a line at a time. Assumes nothing.
-use mathlib.Core.Path.{◌≡◌, refl}
+use mathlib.Core.Path.{◌≡◌, refl, ap, ◌∙◌}
 use mathlib.Core.Bool.{Bool, true, false, cond}
 use mathlib.Core.List.{List, [], ◌∷◌}
 use Prim.Native.Nat.{ℕ, ◌+◌, ◌≤◌, ◌<◌}
@@ -15,9 +15,11 @@ use Rattle.cues.specs.Cue.{key_of}
 use Rattle.cue_lines.specs.CueLine.{cue_line_of}
 use Rattle.tables.specs.Table.{Ordered, member_of, insert_of, put_once_of}
 use Rattle.tables.proofs.Laws.{split, length_insert, insert_ordered, Apart-new}
-use Rattle.std.specs.Prelude.{Result, Ok, Err}
+use Rattle.std.specs.Prelude.{Result, Ok, Err, is_ok, MatchResult}
+use Rattle.refusals.specs.declared.RefusedText.{RefusedText}
 use Rattle.cues.specs.declared.Cue.{Cue}
 use Rattle.scripts.specs.Script.{by_key, by_line, refused_at, read_from, script_of}
+use Rattle.scripts.specs.Taken.{taken}
 
 -- ---- one key
 pub key_full : (t : List ℕ) (k : ℕ) → length t ≡ 256 → member_of k t ≡ false → Err ScriptFull ≡ by_key t k
@@ -70,6 +72,20 @@ key_ordered t u k o e = by_tests (member_of k t) (ltb (length t) 256) refl e
 pub line_ordered : (t u : List ℕ) (l : Result Cue Refusal) → Ordered 1 t → Ok u ≡ by_line t l → Ordered 1 u
 line_ordered t u (Ok c) o e = key_ordered t u (key_of c) o e
 line_ordered t u (Err r) o e = let z : ◌≡◌ {A = ℕ} 0 1 = cc in absurd (omega arith)
+
+-- what a line left in the table, where it was taken in; and the refusal, with the line's number, where it was not
+pub line_taken : (r : Result (Unit {0}) Refusal) (t : List ℕ) (x : Result (List ℕ) Refusal) → true ≡ is_ok r
+    → taken r t ≡ x → Ok t ≡ x
+line_taken (Ok done) t x o e = e
+line_taken (Err why) t x o e = cc
+
+pub line_refused : (r : Result (Unit {0}) Refusal) (t : List ℕ) (x : Result (List ℕ) Refusal) (why : RefusedText) (n : ℕ)
+    (Q : Refusal → Type 0) → MatchResult r (λ done. ◌≡◌ {A = Result (Unit {0}) RefusedText} (Err why) (Ok done)) Q
+    → ((e : Refusal) → Q e → why ≡ record { refusal = e; line = n })
+    → taken r t ≡ x → (Err why.refusal ≡ x) × (why.line ≡ n)
+line_refused (Ok done) t x why n Q m q e = cc
+line_refused (Err refusal) t x why n Q m q e =
+    (ap (λ (w : RefusedText). Err w.refusal) (q refusal m) ∙ e, ap (λ (w : RefusedText). w.line) (q refusal m))
 
 -- ---- the next line of a text
 pub read_on_lem : (n : ℕ) (t u l : List ℕ) (ls : List (List ℕ)) → Ok u ≡ by_line t (cue_line_of l)

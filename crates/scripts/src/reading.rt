@@ -8,7 +8,7 @@ ghost use Rattle.scripts.specs.Taken.{taken};
 
 use cue_lines::read_cue;
 use line_reader::LineReader;
-use refusals::{Refusal, RefusedText};
+use refusals::{Refusal, RefusedText, check_length};
 use sorted_keys::SortedKeys;
 use std::marker::Model;
 
@@ -69,12 +69,10 @@ fn take_lines(keys: &mut SortedKeys<256>, text: &[u8]) -> Result<(), RefusedText
 {
     for (index, line) in LineReader::new(text).enumerate() {
         let number = index + 1;
-        if let Err(refusal) = take_line(keys, line) {
-            return Err(RefusedText {
-                refusal,
-                line: number,
-            });
-        }
+        take_line(keys, line).map_err(|refusal| RefusedText {
+            refusal,
+            line: number,
+        })?;
     }
     Ok(())
 }
@@ -84,12 +82,7 @@ fn take_lines(keys: &mut SortedKeys<256>, text: &[u8]) -> Result<(), RefusedText
 pub fn read_script(text: &[u8]) -> Result<Script, RefusedText>
     ensures { result ≡ script_of text.now }
 {
-    if 65536 < text.len() {
-        return Err(RefusedText {
-            refusal: Refusal::TextTooLong,
-            line: 0,
-        });
-    }
+    check_length(text)?;
     let mut keys = SortedKeys::new();
     take_lines(&mut keys, text)?;
     Ok(Script { keys })

@@ -6,8 +6,10 @@ use Prim.Native.Nat.{ℕ, ◌-◌, ◌≤◌, ◌<◌}
 use native.Mathlib.Omega.{arith}
 use lib.ListN.{length, take, drop, length-drop}
 use lib.Seq.{take_all}
-use borrow.Author.Tests.{lt-ltb, le-ltb}
-use Rattle.refusals.specs.declared.Refusal.TheVariants.{TextTooLong}
+use lib.Dec.{ltb}
+use borrow.Author.Tests.{ltb-false, le-ltb}
+use Rattle.tables.proofs.Laws.{split}
+use Rattle.refusals.specs.Refusal.{length_checked}
 use Rattle.lines.specs.Lines.{lines_of}
 use Rattle.std.specs.Prelude.{Result, Ok, Err}
 use Rattle.std.specs.Result.{IsOk}
@@ -26,9 +28,17 @@ use Rattle.session.specs.Printing.{HasRoom}
 use Rattle.session.proofs.Fitting.{output_fits}
 
 -- ---- the three cases
-pub output_long : (s : List ℕ) → 65536 < length s → start_refused TextTooLong 0 ≡ output_of s
+-- what the length of a text says of it
+pub length_short : (s : List ℕ) → Ok tt ≡ length_checked s → length s ≤ 65536
+length_short s e =
+    split (ltb 65536 (length s)) (λ q. let z : ◌≡◌ {A = Result (Unit {0}) RefusedText} (Ok tt) (Err _) = rw q at e in cc)
+    (λ q. ltb-false _ _ q)
+
+pub output_long : (s : List ℕ) (why : RefusedText) → Err why ≡ length_checked s → start_refused why.refusal why.line ≡ output_of s
 unfolding output_of
-output_long s h = rw (lt-ltb _ _ h)
+output_long s why e =
+    split (ltb 65536 (length s)) (λ q. rw q (cc (rw q at e)))
+    (λ q. let z : ◌≡◌ {A = Result (Unit {0}) RefusedText} (Err why) (Ok tt) = rw q at e in cc)
 
 pub output_refused : (s start : List ℕ) (why : RefusedText) → length s ≤ 65536 → start ≡ start_text s
     → Err why ≡ opening (script_of start) → start_refused why.refusal why.line ≡ output_of s

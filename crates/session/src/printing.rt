@@ -1,7 +1,9 @@
 // What a session prints, part behind part: put into a buffer where it is kept, or only counted.
 //
 // `keep` says which. A text that is counted leaves the buffer alone, which may then be empty. A closure or a type in
-// place of `keep` would compile the engine twice, which costs a fifth of the speed.
+// place of `keep` would compile the engine twice, which costs a fifth of the speed; an `Option` of the buffer would be
+// lent anew at each line, and each clause would take it apart. Buffer, `keep` and place are three parameters, and the
+// room is asked for in each function: it is the room of the text that comes, which no type of the three can know.
 ghost use Rattle.answers.specs.Answer.{answer_text};
 ghost use Rattle.closing_lists.specs.Closing.{closing_text};
 ghost use Rattle.session.specs.Output.{start_refused};
@@ -48,5 +50,6 @@ pub fn put_refused(buf: &mut [u8], keep: bool, refused: RefusedText) -> usize
     if keep {
         return write_record(buf, 0, b"start", number, line).unwrap_or(0);
     }
+    // The word `start`, two commas and the LF; nothing is composed where nothing is kept.
     8 + digit_count(number) + digit_count(line)
 }

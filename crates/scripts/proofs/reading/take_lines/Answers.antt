@@ -1,9 +1,10 @@
-use Rattle.std.proofs.Common.{arith, length, sym, ap, inl, ℕ, ◌+◌, ◌∙◌, ◌≤◌, ◌≡◌}
+use Rattle.std.proofs.Common.{rules, arith, Err, length, sym, ap, inl, ℕ, ◌+◌, ◌∙◌, ◌≤◌, ◌≡◌}
+use Rattle.std.proofs.lemmas.Result.{err_from_is_err_and}
 use Rattle.std.specs.Iterator.Adapters.{enumerate_source, enumerate_count}
 use Rattle.lines.specs.Lines.{lines_of}
 use Rattle.line_reader.specs.Reader.{lines_left}
 use Rattle.scripts.specs.Script.{refused_at, read_from}
-use Rattle.scripts.proofs.ReadLaws.{read_end, read_on_lem, read_refused}
+use Rattle.scripts.proofs.ReadLaws.{line_taken, line_refused, read_end, read_on_lem, read_refused}
 use Rattle.scripts.proofs.reading.take_lines.Goals as goal
 use Rattle.scripts.proofs.reading.take_lines.Goals.{After-into_iter-index-iterator}
 
@@ -49,19 +50,23 @@ loop-index-preserved c =
       few = few;
       so_far =
           ap (λ (k : ℕ). read_from (k + 1) u ls) s.2
-          ∙ (read_on_lem (n + 1) t u c.in-Some.line.now ls (rw c.in_default.is at c.take_line.ensures)
+          ∙ (read_on_lem (n + 1) t u c.in-Some.line.now ls (line_taken _ _ _ c.in_ok-map_err.ensures.variant c.take_line.ensures)
           ∙ (ap (read_from (n + 1) t) (sym s.0) ∙ i.so_far));
     }
 
-pub returns-in-Err : goal.returns-in-Err
-returns-in-Err c =
+pub returns-in_err-map_err : goal.returns-in_err-map_err
+returns-in_err-map_err c =
     let i = c.loop-index.invariant in
     let s = c.in-Some.ensures.steps in
     let n = enumerate_count c.loop-index.index-iterator in
     let t = c.loop-index.keys in
-    ap (λ (k : ℕ). refused_at (k + 1) c.in-Err.refusal) s.1
-    ∙ (read_refused (n + 1) t c.in-Some.line.now (lines_left (enumerate_source c.next.new.self)) c.in-Err.refusal (rw c.in-Err.is at c.take_line.ensures)
-    ∙ (ap (read_from (n + 1) t) (sym s.0) ∙ i.so_far))
+    let why = c.in_err-map_err.field-0.0 in
+    let r = line_refused _ _ _ why (c.in-Some.index + 1) _ c.in_err-map_err.ensures.cases (λ e q. search rules) c.take_line.ensures in
+    let p = err_from_is_err_and c.from_residual.result c.from_residual.ensures.1 in
+    rw (p.1 ∙ ap Err p.2)
+    (ap (λ (k : ℕ). refused_at k why.refusal) (r.1 ∙ ap (λ (k : ℕ). k + 1) s.1)
+    ∙ (read_refused (n + 1) t c.in-Some.line.now (lines_left (enumerate_source c.next.new.self)) why.refusal r.0
+    ∙ (ap (read_from (n + 1) t) (sym s.0) ∙ i.so_far)))
 
 pub returns : goal.returns
 returns c =
