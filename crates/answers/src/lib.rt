@@ -13,6 +13,8 @@ use cues::Cue;
 use records::LineBuffer;
 use refusals::Refusal;
 
+// What is printed for a step. A refusal is one of the lines: as a `Result` it would be folded into one wherever answers
+// are printed or listed, and the model's runs are lists of these.
 #[derive(Clone, Copy, Debug, PartialEq, Eq)]
 pub enum Answer {
     Ok,

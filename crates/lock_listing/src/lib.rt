@@ -10,27 +10,17 @@ ghost use Rattle.boosting.specs.Listing.{lock_line};
 ghost use Rattle.lock_listing.specs.Listed.{ListingWritten, mode_text, modes_text, locks_text, listing_text};
 
 use buffers::{fits, write_bytes};
-use cue_texts::{cue_length, cue_line};
+use cue_texts::cue_line;
 use cues::Cue;
-use digits::digit_count;
 use held_locks::HeldLocks;
 use records::LineBuffer;
 use refusals::Refusal;
 use transactions::Transaction;
 
-// How many bytes the line of a cue lock has. The listing is written whole or not at all, so all are counted first, and
-// counting composes no line.
-#[tactic(auto, using(crate::proofs::Listings::lock_line_counted))]
-fn lock_length(e: u64, key: u64) -> usize
-    ensures counted { result ≡ length (lock_line e key) }
-    ensures short { result ≤ 89 }
-{
-    digit_count(e) + cue_length(Cue::of_key(key)) + 6
-}
-
 // The line of a cue lock.
 fn lock_line(e: u64, key: u64) -> LineBuffer
-    ensures { result ≡ lock_line e key }
+    ensures text { result ≡ lock_line e key }
+    ensures short { length result ≤ 89 }
 {
     let mut line = LineBuffer::new();
     line.push_bytes(b"lock,");
@@ -67,7 +57,8 @@ fn mode_lines(e: u64, locks: &HeldLocks) -> LineBuffer
     lines
 }
 
-// How many bytes the lines of a transaction's locks have.
+// How many bytes the lines of a transaction's locks have. The listing is written whole or not at all, so they are
+// counted first.
 #[tactic(auto, using(crate::proofs::Listings::locks_rules))]
 fn locks_length(e: u64, locks: &HeldLocks) -> usize
     ensures counted { result ≡ length (locks_text e locks.now) }
@@ -75,7 +66,7 @@ fn locks_length(e: u64, locks: &HeldLocks) -> usize
 {
     let mut sum = mode_lines(e, locks).as_bytes().len();
     for key in locks.cues() {
-        sum += lock_length(e, *key);
+        sum += lock_line(e, *key).as_bytes().len();
     }
     sum
 }

@@ -42,7 +42,7 @@ pub enum Call {
     Take,
 }
 
-// What a call is answered.
+// What a call is answered. It is no `Answer`, which is a line: here a cue is its key, on which the model computes.
 #[derive(Clone, Copy, Debug, PartialEq, Eq)]
 pub enum Reply {
     Yes,

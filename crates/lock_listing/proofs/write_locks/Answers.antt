@@ -11,7 +11,7 @@ parts : (c : After-write_bytes) →
     (locks_from c.args.e c.args.locks.now (c.loop-key.key-index + 1))
 parts c =
     locks_parts c.args.e c.args.locks.now c.loop-key.key-index _ _ _ c.cues-key-items.ensures.value c.loop-key-test.true
-    (c.as_bytes.ensures ∙ c.lock_line.ensures)
+    (c.as_bytes.ensures ∙ c.lock_line.ensures.text)
 
 pub returns-in_err-middle : goal.returns-in_err-middle
 returns-in_err-middle c =
