@@ -13,7 +13,7 @@ use vocabulary::Lock;
 
 // The lowest-numbered transaction, counted from 1, other than e that holds a lock in conflict with this one.
 #[inline(always)]
-#[tactic(auto, using(crate::proofs::Blockers::blocker_rules, held_locks::proofs::Searches::search_rules))]
+#[tactic(auto, using(crate::proofs::Blockers::blocker_rules, crate::proofs::Searches::search_rules))]
 pub fn find_blocker(transactions: &[Transaction; 8], e: usize, lock: Lock) -> Option<usize>
     ensures first { result ≡ blocker e lock 1 transactions.now }
     ensures in_range { IfSome result (λ f. f ≤ 8) }

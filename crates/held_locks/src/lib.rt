@@ -127,21 +127,13 @@ impl HeldLocks {
         passes(self.sieve, key)
     }
 
-    // Whether a cue lock with this key is held.
-    #[tactic(auto, using(crate::proofs::Searches::search_rules))]
+    // Whether a cue lock with this key is held. `inline(always)`: as a call it costs the input that mostly waits 4 %.
     #[inline(always)]
+    #[tactic(auto, using(crate::proofs::Members::member_any))]
     pub fn holds_cue(&self, key: u64) -> bool
         ensures { result ≡ member_of key self.now.cues }
     {
-        if !self.may_hold(key) {
-            return false;
-        }
-        for held in self.cues() {
-            if *held == key {
-                return true;
-            }
-        }
-        false
+        self.may_hold(key) && self.cues().contains(&key)
     }
 
     // Whether the lock is in conflict with one of these.
