@@ -77,15 +77,10 @@ impl HeldLocks {
     }
 
     // Lets all locks go.
-    #[tactic(auto, using(crate::proofs::Sieves::sieve_none), unfolding(boosting::specs::Locks::no_locks))]
     pub fn clear(&mut self)
         ensures { self.new ≡ no_locks }
     {
-        self.cues.clear();
-        self.pushes = false;
-        self.looks = false;
-        self.takes = false;
-        self.sieve = 0;
+        *self = Self::new();
     }
 
     // The keys of the cue locks, the oldest first.
