@@ -66,7 +66,7 @@ pub fn try_call(
         ≡ admitted (first_met (call_rows (store_of object.now transactions.now) e call)) (reply_of call object.now) }
 {
     let lock = lock_of(call);
-    if let Some(holder) = find_blocker(transactions, e, lock) {
+    if let Some(holder) = find_blocker(transactions, usize::from(e), lock) {
         return Err(Refusal::Blocked(holder));
     }
     if transactions[e.index()].locks().is_full(lock) {

@@ -1,2 +1,3 @@
 -- Laws of the search.
 pub mod Blockers
+pub mod Searches

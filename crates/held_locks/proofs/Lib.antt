@@ -1,3 +1,3 @@
--- Laws of the sieve and of a search; the folder beside them holds a search's invariant.
+-- Laws of the sieve and of the library's `contains`.
 pub mod Sieves
-pub mod Searches
+pub mod Members

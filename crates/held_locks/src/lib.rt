@@ -77,15 +77,10 @@ impl HeldLocks {
     }
 
     // Lets all locks go.
-    #[tactic(auto, using(crate::proofs::Sieves::sieve_none), unfolding(boosting::specs::Locks::no_locks))]
     pub fn clear(&mut self)
         ensures { self.new ≡ no_locks }
     {
-        self.cues.clear();
-        self.pushes = false;
-        self.looks = false;
-        self.takes = false;
-        self.sieve = 0;
+        *self = Self::new();
     }
 
     // The keys of the cue locks, the oldest first.
@@ -127,21 +122,13 @@ impl HeldLocks {
         passes(self.sieve, key)
     }
 
-    // Whether a cue lock with this key is held.
-    #[tactic(auto, using(crate::proofs::Searches::search_rules))]
+    // Whether a cue lock with this key is held. `inline(always)`: as a call it costs the input that mostly waits 4 %.
     #[inline(always)]
+    #[tactic(auto, using(crate::proofs::Members::member_any))]
     pub fn holds_cue(&self, key: u64) -> bool
         ensures { result ≡ member_of key self.now.cues }
     {
-        if !self.may_hold(key) {
-            return false;
-        }
-        for held in self.cues() {
-            if *held == key {
-                return true;
-            }
-        }
-        false
+        self.may_hold(key) && self.cues().contains(&key)
     }
 
     // Whether the lock is in conflict with one of these.

@@ -44,6 +44,15 @@ impl TryFrom<u64> for TransactionNumber {
     }
 }
 
+impl From<TransactionNumber> for usize {
+    ghost from_gives = { λ e number. number ≡ e };
+
+    #[inline(always)]
+    fn from(e: TransactionNumber) -> usize {
+        e.number
+    }
+}
+
 impl TransactionNumber {
     // All eight, in rising order.
     #[tactic(auto, unfolding(boosting::specs::Recovery::rising))]

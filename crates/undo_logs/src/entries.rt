@@ -1,7 +1,6 @@
 // At most 16 entries in fixed memory: the last that was put in comes out first.
 //
-// It is an array with a count and not the kit's `ArrayVec`: no entry stands for a blank, and it is cleared by its count
-// alone, which each begin and each close of a transaction does.
+// It is an array with a count and not the kit's `ArrayVec`, whose blanks would have to be entries by default.
 ghost use Rattle.std.specs.Prelude.{◌≡◌, ◌<◌, ◌≤◌, [], ◌∷◌, ◌++◌, length, MatchOption};
 
 use std::marker::Model;
@@ -33,14 +32,6 @@ impl Entries {
             items: [Entry::Added(0); 16],
             count: 0,
         }
-    }
-
-    // Takes all entries out.
-    #[inline(always)]
-    pub fn clear(&mut self)
-        ensures { self.new ≡ [] }
-    {
-        self.count = 0;
     }
 
     pub fn as_slice(&self) -> &[Entry]

@@ -47,8 +47,7 @@ impl UndoLog {
     pub fn clear(&mut self)
         ensures { self.new ≡ [] }
     {
-        self.entries.clear();
-        self.takes = 0;
+        *self = Self::new();
     }
 
     // How many entries there are.

@@ -14,13 +14,16 @@ locks c = search (laws.locks_at, arith)
 
 pub returns-in-Some : goal.returns-in-Some
 unfolding first_met
-returns-in-Some c = rw (← c.lock_of-lock.ensures, ← c.in-Some.ensures.first) refl
+returns-in-Some c =
+    let blocked = rw c.from.ensures at c.in-Some.ensures.first in
+    rw (← c.lock_of-lock.ensures, ← blocked) refl
 
 pub returns-then-is_full : goal.returns-then-is_full
 unfolding first_met
 returns-then-is_full c =
     let held = locks (goal.at.returns-then-is_full c).After-is_full in
-    rw (← c.lock_of-lock.ensures, ← c.in_default.ensures.first, held, ← c.if-is_full.ensures) refl
+    let free = rw c.from.ensures at c.in_default.ensures.first in
+    rw (← c.lock_of-lock.ensures, ← free, held, ← c.if-is_full.ensures) refl
 
 rest : (c : After-try_entry)
     → let d : Store = store_of c.args.object.now c.args.transactions.now in
@@ -28,7 +31,7 @@ rest : (c : After-try_entry)
 rest c =
     let held = locks (goal.at.After-try_entry c).After-is_full in
     let noted = c.entry_of.ensures ∙ ap (entry_of c.args.call) c.reply-reply.ensures in
-    let free = c.in_default.ensures.first in
+    let free = rw c.from.ensures at c.in_default.ensures.first in
     laws.behind _ _ c.args.call _ c.lock_of-lock.ensures free _ held c.if-is_full.ensures _ noted
 
 pub returns-in_err-try_entry : goal.returns-in_err-try_entry
