@@ -79,13 +79,12 @@ fn reserve_log(slots: &mut SortedKeys<MOST>, log: &UndoLog)
 }
 
 // The cues that have a slot of the script.
-#[tactic(auto, using(crate::proofs::Reserved::all_rules))]
 fn reserve_all(slots: &mut SortedKeys<MOST>, object: &SharedObject, transactions: &[Transaction; 8])
     ensures { slots.new ≡ reserved_in transactions.now object.now.script }
 {
     slots.copy_from(object.script());
-    for i in (0..8).rev() {
-        reserve_log(slots, transactions[i].log());
+    for transaction in transactions.iter().rev() {
+        reserve_log(slots, transaction.log());
     }
 }
 
