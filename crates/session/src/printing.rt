@@ -34,9 +34,9 @@ pub fn put_closing(buf: &mut [u8], keep: bool, at: usize, object: &SharedObject)
     ensures { Printed keep buf.old at (closing_text object.now) result buf.new }
 {
     if keep {
-        return write_closing(buf, at, object).unwrap_or(at);
+        return write_closing(buf, at, object.script(), object.queue()).unwrap_or(at);
     }
-    at + closing_length(object)
+    at + closing_length(object.script(), object.queue())
 }
 
 // The line `start,n,line` of a refused start: the place behind it.

@@ -2,7 +2,7 @@
 use Rattle.std.proofs.Common.{◌≡◌, ℕ, ◌+◌, ◌-◌, ◌<◌, ◌≤◌, false, not, List, [], ◌∷◌, length, get_or, take, drop, reverse, refl, sym, ap, ◌∙◌, arith}
 use Rattle.std.specs.Prelude.{Some}
 use Rattle.std.proofs.lemmas.Bool.{lt-leb, le-leb}
-use Rattle.std.proofs.lemmas.List.{take_more, drop_more, drop_all, reverse-append}
+use Rattle.std.proofs.lemmas.List.{take_more, drop_more, drop_all, get_or-reverse, reverse-append}
 use Rattle.tables.specs.Table.{member_of, put_once_of}
 use Rattle.tables.proofs.Laws.{split, length_once}
 use Rattle.boosting.specs.Undo.{Entry, added, removed, pushed, taken}
@@ -40,18 +40,20 @@ module _ (i : ℕ) (items : List Entry) (d : Entry) (h : i < length items) where
 pub length_entry : (n : Entry) (slots to : List ℕ) → to ≡ reserved_by (n ∷ []) slots → length to ≤ length slots + 1
 length_entry n slots to q = rw q (length_by (n ∷ []) slots)
 
--- the slots from place i on, which are put in from the last transaction to the first
+-- the slots of the last n transactions, which are put in from the last one to the first
 pub in_none : (i : ℕ) (ts : List Transaction) (l : List ℕ) → length ts ≤ i → l ≡ reserved_in (drop i ts) l
 unfolding reserved_in
 in_none i ts l h = rw (drop_all i ts h) refl
 
-pub in_next : (i : ℕ) (ts : List Transaction) (t : Transaction) (l slots to : List ℕ) → 0 < i → i ≤ length ts
-    → slots ≡ reserved_in (drop i ts) l → to ≡ reserved_by (get_or ts (i - 1) t).log slots
-    → to ≡ reserved_in (drop (i - 1) ts) l
+pub in_next : (n m : ℕ) (ts : List Transaction) (t : Transaction) (l slots to : List ℕ) → n < length ts → m ≡ n + 1
+    → t ≡ get_or (reverse ts) n t → slots ≡ reserved_in (drop (length ts - n) ts) l → to ≡ reserved_by t.log slots
+    → to ≡ reserved_in (drop (length ts - m) ts) l
 unfolding reserved_in
-in_next i ts t l slots to h k r q =
-    let e : i - 1 + 1 ≡ i = omega arith in
-    q ∙ rw (r, drop_more ts (i - 1) t (omega arith), e) refl
+in_next n m ts t l slots to h k is r q =
+    let j = length ts - m in
+    let above : j + 1 ≡ length ts - n = omega arith in
+    let same : get_or ts j t ≡ t = ap (λ (i : ℕ). get_or ts i t) (omega arith) ∙ sym (is ∙ get_or-reverse ts n t h) in
+    q ∙ rw (r, drop_more ts j t (omega arith), same, above) refl
 
 -- room by the count, or by the cue
 module _ (key : ℕ) (slots : List ℕ) where
@@ -64,7 +66,5 @@ module _ (key : ℕ) (slots : List ℕ) where
 pub ruleset entry_rules = (once_fits)
 
 pub ruleset log_rules = (by_none, by_next, length_entry)
-
-pub ruleset all_rules = (in_none, in_next)
 
 pub ruleset room_rules = (room_left, room_held, length_in)

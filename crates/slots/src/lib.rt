@@ -35,10 +35,10 @@ fn all_entries(transactions: &[Transaction; 8]) -> usize
 
 // The queue's slots in use: its cues, and the take entries of the logs.
 #[tactic(auto, using(crate::proofs::Counts::count_rules))]
-fn queue_slots(object: &SharedObject, transactions: &[Transaction; 8]) -> usize
-    ensures { result ≡ length object.now.queue + takes_in transactions.now }
+fn queue_slots(queue: &[u64], transactions: &[Transaction; 8]) -> usize
+    ensures { result ≡ length queue.now + takes_in transactions.now }
 {
-    let mut slots = object.queue().len();
+    let mut slots = queue.len();
     for transaction in transactions {
         slots += usize::from(transaction.log().takes());
     }
@@ -46,10 +46,10 @@ fn queue_slots(object: &SharedObject, transactions: &[Transaction; 8]) -> usize
 }
 
 // Whether a 65th slot of the queue is needed.
-pub fn queue_full(object: &SharedObject, transactions: &[Transaction; 8]) -> bool
-    ensures { result ≡ nat_le 64 (length object.now.queue + takes_in transactions.now) }
+pub fn queue_full(queue: &[u64], transactions: &[Transaction; 8]) -> bool
+    ensures { result ≡ nat_le 64 (length queue.now + takes_in transactions.now) }
 {
-    64 <= queue_slots(object, transactions)
+    64 <= queue_slots(queue, transactions)
 }
 
 // The slot that an entry keeps is put among those that are there: only add and remove entries keep one.
@@ -79,13 +79,12 @@ fn reserve_log(slots: &mut SortedKeys<MOST>, log: &UndoLog)
 }
 
 // The cues that have a slot of the script.
-#[tactic(auto, using(crate::proofs::Reserved::all_rules))]
 fn reserve_all(slots: &mut SortedKeys<MOST>, object: &SharedObject, transactions: &[Transaction; 8])
     ensures { slots.new ≡ reserved_in transactions.now object.now.script }
 {
     slots.copy_from(object.script());
-    for i in (0..8).rev() {
-        reserve_log(slots, transactions[i].log());
+    for transaction in transactions.iter().rev() {
+        reserve_log(slots, transaction.log());
     }
 }
 

@@ -3,6 +3,7 @@ use Rattle.std.proofs.Common.{◌≡◌, ℕ, zero, suc, ◌+◌, ◌<◌, ◌�
 use Rattle.std.specs.List.{insert, remove}
 use Rattle.tables.specs.Table.{From, Ordered, rank_of, member_of, insert_of, delete_of, put_once_of}
 use Rattle.tables.proofs.Laws as tables
+use Rattle.sorted_keys.specs.Least.{others_of}
 use Rattle.sorted_keys.proofs.Ranks.{rank_le, member_rank}
 
 pub insert-rank : (k : ℕ) (l : List ℕ) → insert_of k l ≡ insert l (rank_of k l) k
@@ -27,6 +28,10 @@ remove-Ordered (suc i) (x ∷ l) o = (remove-From (x + 0) i l o.0, remove-Ordere
 pub removed-Ordered : (i : ℕ) (l m : List ℕ) → m ≡ remove l i → Ordered 0 l → Ordered 0 m
 removed-Ordered i l m e o = rw e (remove-Ordered i l o)
 
+pub others-Ordered : (l m : List ℕ) → m ≡ others_of l → Ordered 0 l → Ordered 0 m
+others-Ordered [] m e o = rw e tt
+others-Ordered (x ∷ l) m e o = rw e o.1
+
 -- putting in once is leaving what is there as it is, and inserting what is not
 pub once-there : (k : ℕ) (l : List ℕ) → member_of k l ≡ true → put_once_of k l ≡ l
 unfolding put_once_of
@@ -50,6 +55,7 @@ pub ruleset keys_rules = (
   tables.delete_absent,
   inserted-Ordered,
   removed-Ordered,
+  others-Ordered,
   once-there,
   once-new,
   once-room,

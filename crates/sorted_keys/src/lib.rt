@@ -2,6 +2,9 @@
 //
 // A script is such a collection in which no key stands twice, a queue one in which keys may repeat; the same methods
 // serve both. What a key means is in `cues`. Clauses see the list of the keys, and its order is the type's invariant.
+//
+// `Words`, `rank` and `stands_at` are public for words that are not such a collection: `Words` for words in any order,
+// `rank` and `stands_at` for a sorted slice that stands elsewhere.
 #![tactic(auto)]
 
 ghost use Rattle.std.specs.Prelude.{◌≡◌, ℕ, ◌<◌, ◌≤◌, List, [], take, length, not};
@@ -11,9 +14,9 @@ ghost use Rattle.sorted_keys.specs.Least.{least_of, others_of};
 mod search;
 mod words;
 
-use search::{rank, stands_at};
+pub use search::{rank, stands_at};
 use std::marker::Model;
-use words::Words;
+pub use words::Words;
 
 #[derive(Drop)]
 pub struct SortedKeys<const N: usize> {
@@ -31,7 +34,6 @@ impl<const N: usize> Model for SortedKeys<N> {
 #[tactic(auto, using(crate::proofs::Keys::keys_rules))]
 impl<const N: usize> SortedKeys<N> {
     pub fn new() -> Self
-        requires { N ≤ 65536 }
         ensures { result ≡ [] }
     {
         SortedKeys { keys: Words::new() }
@@ -124,8 +126,6 @@ impl<const N: usize> SortedKeys<N> {
         ensures least { result ≡ least_of self.old }
         ensures others { self.new ≡ others_of self.old }
     {
-        let first = self.first()?;
-        self.keys.remove(0);
-        Some(first)
+        self.keys.remove_first()
     }
 }

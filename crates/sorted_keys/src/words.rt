@@ -3,6 +3,7 @@
 // The kit's `ArrayVec` was tried: the steps that mostly wait take 0.52 of plain Rust's time with it and 0.49 so, and
 // the desk's bar is 0.5.
 ghost use Rattle.std.specs.Prelude.{◌≡◌, ℕ, ◌<◌, ◌≤◌, List, [], length, take, insert, remove};
+ghost use Rattle.sorted_keys.specs.Least.{least_of, others_of};
 
 use std::marker::Model;
 
@@ -17,12 +18,11 @@ impl<const N: usize> Model for Words<N> {
 
     ghost view = { λ w. take w.count w.words };
 
-    ghost invariant = { λ w. (N ≤ 65536) × (w.count ≤ N) };
+    ghost invariant = { λ w. w.count ≤ N };
 }
 
 impl<const N: usize> Words<N> {
     pub fn new() -> Self
-        requires { N ≤ 65536 }
         ensures { result ≡ [] }
     {
         Words {
@@ -41,7 +41,6 @@ impl<const N: usize> Words<N> {
     pub fn as_slice(&self) -> &[u64]
         ensures value { result.now ≡ self.now }
         ensures fits { length result.now ≤ N }
-        ensures bounded { N ≤ 65536 }
     {
         &self.words[..self.count]
     }
@@ -79,5 +78,15 @@ impl<const N: usize> Words<N> {
     {
         self.words.copy_within(at + 1..self.count, at);
         self.count -= 1;
+    }
+
+    // Takes out the first word, if there is one: the least, where they are in order.
+    pub fn remove_first(&mut self) -> Option<u64>
+        ensures least { result ≡ least_of self.old }
+        ensures others { self.new ≡ others_of self.old }
+    {
+        let first = self.as_slice().first().copied()?;
+        self.remove(0);
+        Some(first)
     }
 }

@@ -35,7 +35,7 @@ unfolding first_met
 returns-in-Pushed c =
     let room = lt-leb 16 (length c.log.result.now) (omega arith) in
     c.refused_when-in-Pushed.ensures
-    ∙ rw (c.in-Some.is, c.in-Pushed.is, log (goal.at.returns-in-Pushed c).After-len, room, ← c.queue_full.ensures)
+    ∙ rw (c.in-Some.is, c.in-Pushed.is, log (goal.at.returns-in-Pushed c).After-len, room, ← c.queue.ensures.value, ← c.queue_full.ensures)
     (laws.one_row _ _ _ _ refl)
 
 pub returns-in-Removed : goal.returns-in-Removed

@@ -5,6 +5,6 @@ use Rattle.slots.proofs.queue_slots.Given as goal
 
 abbrev pub invariant-loop-transaction : goal.invariant-loop-transaction
 invariant-loop-transaction l = record {
-  counted : l.slots + takes_in (drop l.transaction-index l.transactions) ≡ length l.object.queue + takes_in l.transactions;
-  fits : l.slots ≤ 64 + 255 * l.transaction-index;
+  counted : l.slots + takes_in (drop l.transaction-index l.transactions) ≡ length l.queue + takes_in l.transactions;
+  fits : l.slots ≤ length l.queue + 255 * l.transaction-index;
 }
