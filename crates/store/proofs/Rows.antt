@@ -1,7 +1,7 @@
 -- The rows 2 to 7, by how the request's transaction stands and by the action; and what the rows 8 to 12 say of a call.
 -- Assumes nothing.
 use Rattle.std.proofs.Common.{◌≡◌, ℕ, zero, suc, true, false, List, refl, sym, ap, subst, ◌∙◌, arith}
-use Rattle.std.specs.Prelude.{Option, None, Some, Ok, Err, nat_le}
+use Rattle.std.specs.Prelude.{Option, None, Some, Result, Ok, Err}
 use borrow.Author.Tests.{leb-true, leb-false}
 use Rattle.std.proofs.lemmas.List.{get_or_past}
 use Rattle.tables.proofs.Laws.{split}
@@ -35,7 +35,7 @@ use Rattle.boosting.specs.Rows.{
 }
 use Rattle.boosting.specs.Step.{Out, perform, refuse, step_on}
 use Rattle.boosting.specs.Sound.{Sound, ActionKey, RequestKey}
-use Rattle.boosting.proofs.Accepted.{step_refused, step_accepted}
+use Rattle.boosting.proofs.Accepted.{no_call, asks, accepted_standing, step_refused, step_accepted, step_case, Accepts-abort, Accepts-roll_back}
 use Rattle.boosting.proofs.Sound.{request_key}
 use Rattle.boosting.proofs.StoreLaws.{range_valid, open_unclosed}
 use Rattle.admission.specs.Answers.{admitted, store_of}
@@ -51,22 +51,22 @@ asked_key q s p = subst RequestKey (sym p) (request_key s)
 
 -- ---- rows 2 to 7
 module _ (d : Store) (q : Request) where
-  pub no_number : valid q.transaction ≡ false → step_on d (Some q) ≡ refuse d TransactionOutOfRange
-  unfolding step_on refusal_of first_met
+  pub no_number : valid q.transaction ≡ false → Err TransactionOutOfRange ≡ admitted (refusal_of d (Some q)) q.transaction
+  unfolding refusal_of first_met
   no_number v = rw v refl
 
   module _ (v : valid q.transaction ≡ true) where
     module _ (s : closed ≡ (transaction d q.transaction).standing) where
-      pub begins : q.action ≡ begin → step_on d (Some q) ≡ perform d q.transaction begin
-      unfolding step_on refusal_of first_met
+      pub begins : q.action ≡ begin → Ok q.transaction ≡ admitted (refusal_of d (Some q)) q.transaction
+      unfolding refusal_of first_met
       begins a = rw (a, v, ← s) refl
 
-      pub not_begun : (q.action ≡ begin → ⊥) → step_on d (Some q) ≡ refuse d NotBegun
-      unfolding step_on refusal_of first_met
+      pub not_begun : (q.action ≡ begin → ⊥) → Err NotBegun ≡ admitted (refusal_of d (Some q)) q.transaction
+      unfolding refusal_of first_met
       not_begun n = go q.action n
         where
           go : (a : Action) → (a ≡ begin → ⊥)
-              → step_on d (Some (record { transaction = q.transaction; action = a })) ≡ refuse d NotBegun
+              → Err NotBegun ≡ admitted (refusal_of d (Some (record { transaction = q.transaction; action = a }))) q.transaction
           go begin n = absurd (n refl)
           go commit n = rw (v, ← s) refl
           go abort n = rw (v, ← s) refl
@@ -74,20 +74,20 @@ module _ (d : Store) (q : Request) where
           go (call c) n = rw (v, ← s) refl
 
     module _ (s : aborting ≡ (transaction d q.transaction).standing) where
-      pub aborting_begun : q.action ≡ begin → step_on d (Some q) ≡ refuse d AlreadyBegun
-      unfolding step_on refusal_of first_met
+      pub aborting_begun : q.action ≡ begin → Err AlreadyBegun ≡ admitted (refusal_of d (Some q)) q.transaction
+      unfolding refusal_of first_met
       aborting_begun a = rw (a, v, ← s) refl
 
-      pub rolls_back : q.action ≡ roll_back → step_on d (Some q) ≡ perform d q.transaction roll_back
-      unfolding step_on refusal_of first_met
+      pub rolls_back : q.action ≡ roll_back → Ok q.transaction ≡ admitted (refusal_of d (Some q)) q.transaction
+      unfolding refusal_of first_met
       rolls_back a = rw (a, v, ← s) refl
 
-      pub goes_back : (q.action ≡ begin → ⊥) → (q.action ≡ roll_back → ⊥) → step_on d (Some q) ≡ refuse d IsAborting
-      unfolding step_on refusal_of first_met
+      pub goes_back : (q.action ≡ begin → ⊥) → (q.action ≡ roll_back → ⊥) → Err IsAborting ≡ admitted (refusal_of d (Some q)) q.transaction
+      unfolding refusal_of first_met
       goes_back m n = go q.action m n
         where
           go : (a : Action) → (a ≡ begin → ⊥) → (a ≡ roll_back → ⊥)
-              → step_on d (Some (record { transaction = q.transaction; action = a })) ≡ refuse d IsAborting
+              → Err IsAborting ≡ admitted (refusal_of d (Some (record { transaction = q.transaction; action = a }))) q.transaction
           go begin m n = absurd (m refl)
           go commit m n = rw (v, ← s) refl
           go abort m n = rw (v, ← s) refl
@@ -95,25 +95,42 @@ module _ (d : Store) (q : Request) where
           go (call c) m n = rw (v, ← s) refl
 
     module _ (s : «open» ≡ (transaction d q.transaction).standing) where
-      pub open_begun : q.action ≡ begin → step_on d (Some q) ≡ refuse d AlreadyBegun
-      unfolding step_on refusal_of first_met
+      pub open_begun : q.action ≡ begin → Err AlreadyBegun ≡ admitted (refusal_of d (Some q)) q.transaction
+      unfolding refusal_of first_met
       open_begun a = rw (a, v, ← s) refl
 
-      pub not_aborting : q.action ≡ roll_back → step_on d (Some q) ≡ refuse d NotAborting
-      unfolding step_on refusal_of first_met
+      pub not_aborting : q.action ≡ roll_back → Err NotAborting ≡ admitted (refusal_of d (Some q)) q.transaction
+      unfolding refusal_of first_met
       not_aborting a = rw (a, v, ← s) refl
 
-      pub out_of_range : q.action ≡ call None → step_on d (Some q) ≡ refuse d CueOutOfRange
-      unfolding step_on refusal_of first_met
+      pub out_of_range : q.action ≡ call None → Err CueOutOfRange ≡ admitted (refusal_of d (Some q)) q.transaction
+      unfolding refusal_of first_met
       out_of_range a = rw (a, v, ← s) refl
 
-      pub commits : q.action ≡ commit → step_on d (Some q) ≡ perform d q.transaction commit
-      unfolding step_on refusal_of first_met
+      pub commits : q.action ≡ commit → Ok q.transaction ≡ admitted (refusal_of d (Some q)) q.transaction
+      unfolding refusal_of first_met
       commits a = rw (a, v, ← s) refl
 
-      pub aborts : q.action ≡ abort → step_on d (Some q) ≡ perform d q.transaction abort
-      unfolding step_on refusal_of first_met
+      pub aborts : q.action ≡ abort → Ok q.transaction ≡ admitted (refusal_of d (Some q)) q.transaction
+      unfolding refusal_of first_met
       aborts a = rw (a, v, ← s) refl
+
+-- ---- rows 8 to 12, of a call of an open transaction
+module _ (s : State) (ts : List Transaction) (d : Store) (is : store_of s ts ≡ d) (q : Request) (c : Call)
+    (a : q.action ≡ call (Some c)) (v : valid q.transaction ≡ true) (o : «open» ≡ (transaction d q.transaction).standing) where
+  rows_are : refusal_of d (Some q) ≡ first_met (call_rows (store_of s ts) q.transaction c)
+  unfolding refusal_of first_met
+  rows_are = rw (a, v, ← o) (ap (λ (d : Store). first_met (call_rows d q.transaction c)) (sym is))
+
+  pub call_refused : (r : Refusal)
+      → ◌≡◌ {A = Result (Unit {0}) Refusal} (Err r) (admitted (first_met (call_rows (store_of s ts) q.transaction c)) tt)
+      → Err r ≡ admitted (refusal_of d (Some q)) q.transaction
+  call_refused r p = rw (rows_are, admitted-Err _ _ r p) refl
+
+  pub call_admitted :
+      ◌≡◌ {A = Result (Unit {0}) Refusal} (Ok tt) (admitted (first_met (call_rows (store_of s ts) q.transaction c)) tt)
+      → Ok q.transaction ≡ admitted (refusal_of d (Some q)) q.transaction
+  call_admitted p = rw (rows_are, admitted-Ok _ _ _ p) refl
 
 pub ruleset row_rules = (
   no_number,
@@ -127,47 +144,46 @@ pub ruleset row_rules = (
   out_of_range,
   commits,
   aborts,
+  call_refused,
+  call_admitted,
 )
 
--- ---- rows 8 to 12, of a call of an open transaction
-open_valid : (d : Store) (e : ℕ) → Sound d → (transaction d e).standing ≡ «open» → valid e ≡ true
-unfolding transaction closed_transaction
-open_valid d zero v s = absurd (open_unclosed _ s refl)
-open_valid d (suc i) v s =
-    split (nat_le 8 i)
-    (λ p.
-    let n = v.eight in
-    let out = get_or_past d.transactions i closed_transaction (omega (arith, leb-true 8 i p)) in
-    absurd (open_unclosed _ s (ap (λ (t : Transaction). t.standing) out)))
-    (λ p. range_valid (suc i) (omega arith) (omega (arith, leb-false 8 i p)))
+-- ---- a request that is turned away changes nothing; one that is admitted is performed
+module _ (d : Store) (q : Request) where
+  pub turned_away : (r : Refusal) → Err r ≡ admitted (refusal_of d (Some q)) q.transaction → step_on d (Some q) ≡ refuse d r
+  turned_away r p = step_refused d (Some q) r (admitted-Err _ _ r p)
 
-module _ (s : State) (ts : List Transaction) (v : Sound (store_of s ts)) (d : Store) (is : store_of s ts ≡ d) (e : ℕ)
-    (c : Call) (o : (transaction d e).standing ≡ «open») where
-  rows_are : refusal_of d (request e (call (Some c))) ≡ first_met (call_rows (store_of s ts) e c)
-  unfolding refusal_of first_met
-  rows_are =
-      let p = ap (λ (d : Store). (transaction d e).standing) is ∙ o in
-      let ok : valid e ≡ true = open_valid (store_of s ts) e v p in
-      rw (ok, o) (ap (λ (d : Store). first_met (call_rows d e c)) (sym is))
+  module _ (e : ℕ) (p : Ok e ≡ admitted (refusal_of d (Some q)) q.transaction) where
+    none_met : refusal_of d (Some q) ≡ None
+    none_met = admitted-Ok _ _ _ p
 
-  module _ (r : Refusal) (p : Err r ≡ admitted (first_met (call_rows (store_of s ts) e c)) (reply c s)) where
-    call_refused : step_on d (request e (call (Some c))) ≡ refuse d r
-    call_refused = step_refused d (request e (call (Some c))) r (rows_are ∙ admitted-Err _ _ r p)
+    number_is : e ≡ q.transaction
+    number_is = let z : ◌≡◌ {A = Result ℕ Refusal} (Ok e) (Ok q.transaction) = rw none_met at p in cc
 
-    pub refused-store : d ≡ (step_on d (request e (call (Some c)))).store
-    refused-store = ap (λ (o : Out). o.store) (sym call_refused)
+    pub admits : refusal_of d (request e q.action) ≡ None
+    admits = rw number_is none_met
 
-    pub refused-answer : Refused r ≡ (step_on d (request e (call (Some c)))).answer
-    refused-answer = ap (λ (o : Out). o.answer) (sym call_refused)
+    pub performed : step_on d (Some q) ≡ perform d e q.action
+    performed = rw number_is (step_accepted d q.transaction q.action none_met)
 
-  module _ (a : Reply) (p : Ok a ≡ admitted (first_met (call_rows (store_of s ts) e c)) (reply c s)) where
-    pub call_accepted : refusal_of d (request e (call (Some c))) ≡ None
-    call_accepted = rows_are ∙ admitted-Ok _ _ _ p
+-- no request is admitted whose cue is out of range
+pub no_cue : {A : Type 0} (d : Store) (e : ℕ) (a : Action) (c : Option Call) → refusal_of d (request e a) ≡ None
+    → a ≡ call c → c ≡ None → A
+no_cue d e a c m p q = no_call d e (rw (p, q) at m)
 
-    pub done-store : (x : Store) → x ≡ (perform d e (call (Some c))).store
-        → x ≡ (step_on d (request e (call (Some c)))).store
-    done-store x q = q ∙ ap (λ (o : Out). o.store) (sym (step_accepted d e _ call_accepted))
+pub ruleset request_rules = (turned_away, admits, performed)
 
-    pub done-answer : (x : Answer) → x ≡ (perform d e (call (Some c))).answer
-        → x ≡ (step_on d (request e (call (Some c)))).answer
-    done-answer x q = q ∙ ap (λ (o : Out). o.answer) (sym (step_accepted d e _ call_accepted))
+-- ---- recovery's requests: one that its transaction's standing does not ask for changes nothing
+pub not_asked : (d : Store) (e : ℕ) (a : Action) → ((transaction d e).standing ≡ asks a → ⊥)
+    → d ≡ (step_on d (request e a)).store
+not_asked d e a n =
+    step_case d e a (λ o. d ≡ o.store) (λ r h. refl) (λ h. absurd (n (accepted_standing d e a h)))
+
+module _ (d : Store) (e : ℕ) (v : valid e ≡ true) where
+  pub abort_asked : (transaction d e).standing ≡ «open» → step_on d (request e abort) ≡ perform d e abort
+  abort_asked s = step_accepted d e abort (Accepts-abort d e v s)
+
+  pub roll_back_asked : (transaction d e).standing ≡ aborting → step_on d (request e roll_back) ≡ perform d e roll_back
+  roll_back_asked s = step_accepted d e roll_back (Accepts-roll_back d e v s)
+
+pub ruleset standing_rules = (not_asked, abort_asked, roll_back_asked)

@@ -63,15 +63,15 @@ impl Store {
         Answer::Left(self.transactions[e.index()].log().len())
     }
 
-    // An accepted call with its reply: the plain operation is run, its lock held and its entry noted.
+    // An accepted call: the plain operation is run, its lock held and its entry noted.
     #[inline(always)]
-    pub(crate) fn accept(&mut self, e: TransactionNumber, call: Call, reply: Reply) -> Answer
+    pub(crate) fn accept(&mut self, e: TransactionNumber, call: Call) -> Answer
         requires accepted { refusal_of self.old (request e (on_object (Some call))) ≡ None }
         requires is_key { CallKey call }
-        requires known { reply ≡ reply_of call self.old.state }
         ensures store { self.new ≡ (perform self.old e (on_object (Some call))).store }
         ensures answer { result ≡ (perform self.old e (on_object (Some call))).answer }
     {
+        let reply = self.object.reply(call);
         self.object.apply(call, reply);
         self.transactions[e.index()].accept(lock_of(call), entry_of(call, reply));
         answer_of(reply)

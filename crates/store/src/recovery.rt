@@ -10,7 +10,7 @@ use vocabulary::Standing;
 
 impl Store {
     // An open transaction is aborting from now on; any other refuses, and nothing changes.
-    #[tactic(auto, using(crate::proofs::Rows::row_rules))]
+    #[tactic(auto, using(crate::proofs::Rows::standing_rules))]
     fn abort_open(&mut self, e: TransactionNumber)
         ensures { self.new ≡ (step_on self.old (request e abort)).store }
     {
@@ -24,7 +24,7 @@ impl Store {
     }
 
     // One entry of an aborting transaction is undone; any other refuses, and nothing changes.
-    #[tactic(auto, using(crate::proofs::Rows::row_rules))]
+    #[tactic(auto, using(crate::proofs::Rows::standing_rules))]
     fn step_back(&mut self, e: TransactionNumber)
         ensures { self.new ≡ (step_on self.old (request e roll_back)).store }
     {

@@ -1,10 +1,10 @@
 // One step, by a raw line or one that has been read: turned into a request, tried by the rows of the table, and
 // performed.
-ghost use Rattle.std.specs.Prelude.{◌≡◌, Some};
-ghost use Rattle.boosting.specs.Store.{transaction, «open»};
-ghost use Rattle.boosting.specs.Rows.{call as on_object, number_action, cue_call, on_cue_of, request, request_of};
-ghost use Rattle.boosting.specs.Sound.{CallKey, RequestKey};
-ghost use Rattle.boosting.specs.Step.{step_on, step_line};
+ghost use Rattle.std.specs.Prelude.{◌≡◌, Some, None};
+ghost use Rattle.boosting.specs.Rows.{number_action, cue_call, on_cue_of, refusal_of, request, request_of};
+ghost use Rattle.boosting.specs.Sound.{ActionKey, RequestKey};
+ghost use Rattle.boosting.specs.Step.{perform, step_on, step_line};
+ghost use Rattle.admission.specs.Answers.{admitted};
 ghost use Rattle.store.specs.Answering.{answered};
 
 use crate::Store;
@@ -71,39 +71,59 @@ fn request_of(step: Step) -> Request
 }
 
 impl Store {
-    // A call of an open transaction: turned away by rows 8 to 12 with nothing changed, or accepted and done.
-    #[inline(always)]
-    fn try_on_object(&mut self, e: TransactionNumber, call: Call) -> Result<Answer, Refusal>
-        requires is_open { (transaction self.old e).standing ≡ «open» }
-        requires is_key { CallKey call }
-        ensures store { self.new ≡ (step_on self.old (request e (on_object (Some call)))).store }
-        ensures answer { answered result ≡ (step_on self.old (request e (on_object (Some call)))).answer }
-    {
-        let reply = try_call(&self.object, &self.transactions, e, call)?;
-        Ok(self.accept(e, call, reply))
-    }
-
-    // One request: turned away with nothing changed, or accepted and done. The rows 2 to 7 of the table stand here.
+    // The transaction of a request that the store would accept as it stands; else the first row of the table that turns
+    // the request away. Nothing is changed. The rows 2 to 7 stand here.
     #[inline(always)]
     #[tactic(auto, using(crate::proofs::Rows::row_rules))]
+    pub fn admit(&self, request: Request) -> Result<TransactionNumber, Refusal>
+        ensures { result ≡ admitted (refusal_of self.now (Some request)) request.transaction }
+    {
+        let e = TransactionNumber::try_from(request.transaction)?;
+        match (self.standing(e), request.action) {
+            (Standing::Closed, Action::Begin) => Ok(e),
+            (_, Action::Begin) => Err(Refusal::AlreadyBegun),
+            (Standing::Closed, _) => Err(Refusal::NotBegun),
+            (Standing::Aborting, Action::RollBack) => Ok(e),
+            (Standing::Aborting, _) => Err(Refusal::Aborting),
+            (Standing::Open, Action::RollBack) => Err(Refusal::NotAborting),
+            (Standing::Open, Action::OnObject(None)) => Err(Refusal::CueOutOfRange),
+            (Standing::Open, Action::OnObject(Some(call))) => {
+                try_call(&self.object, &self.transactions, e, call)?;
+                Ok(e)
+            }
+            (Standing::Open, Action::Commit | Action::Abort) => Ok(e),
+        }
+    }
+
+    // An accepted request is done.
+    #[inline(always)]
+    fn perform(&mut self, e: TransactionNumber, action: Action) -> Answer
+        requires accepted { refusal_of self.old (request e action) ≡ None }
+        requires is_key { ActionKey action }
+        ensures store { self.new ≡ (perform self.old e action).store }
+        ensures answer { result ≡ (perform self.old e action).answer }
+    {
+        match action {
+            Action::Begin => self.begin(e),
+            Action::Commit => self.commit(e),
+            Action::Abort => self.abort(e),
+            Action::RollBack => self.roll_back(e),
+            Action::OnObject(Some(call)) => self.accept(e, call),
+            // Row 7 has turned it away.
+            Action::OnObject(None) => Answer::Refused(Refusal::CueOutOfRange),
+        }
+    }
+
+    // One request: turned away with nothing changed, or accepted and done.
+    #[inline(always)]
+    #[tactic(auto, using(crate::proofs::Rows::request_rules))]
     fn try_request(&mut self, request: Request) -> Result<Answer, Refusal>
         requires { RequestKey (Some request) }
         ensures store { self.new ≡ (step_on self.old (Some request)).store }
         ensures answer { answered result ≡ (step_on self.old (Some request)).answer }
     {
-        let e = TransactionNumber::try_from(request.transaction)?;
-        match (self.standing(e), request.action) {
-            (Standing::Closed, Action::Begin) => Ok(self.begin(e)),
-            (_, Action::Begin) => Err(Refusal::AlreadyBegun),
-            (Standing::Closed, _) => Err(Refusal::NotBegun),
-            (Standing::Aborting, Action::RollBack) => Ok(self.roll_back(e)),
-            (Standing::Aborting, _) => Err(Refusal::Aborting),
-            (Standing::Open, Action::RollBack) => Err(Refusal::NotAborting),
-            (Standing::Open, Action::OnObject(None)) => Err(Refusal::CueOutOfRange),
-            (Standing::Open, Action::OnObject(Some(call))) => self.try_on_object(e, call),
-            (Standing::Open, Action::Commit) => Ok(self.commit(e)),
-            (Standing::Open, Action::Abort) => Ok(self.abort(e)),
-        }
+        let e = self.admit(request)?;
+        Ok(self.perform(e, request.action))
     }
 
     // One step that has been read, or none where a line is no step: refused with nothing changed, or accepted and done.

@@ -27,20 +27,12 @@ returns-then-is_full c =
 
 rest : (c : After-try_entry)
     → let d : Store = store_of c.args.object.now c.args.transactions.now in
-    first_met (call_rows d c.args.e c.args.call) ≡ first_met (room_rows d c.args.e c.entry_of.result)
+    first_met (call_rows d c.args.e c.args.call) ≡ first_met (room_rows d c.args.e c.entry_of-noted.result)
 rest c =
     let held = locks (goal.at.After-try_entry c).After-is_full in
-    let noted = c.entry_of.ensures ∙ ap (entry_of c.args.call) c.reply-reply.ensures in
+    let noted = c.entry_of-noted.ensures ∙ ap (entry_of c.args.call) c.reply.ensures in
     let free = rw c.from.ensures at c.in_default.ensures.first in
     laws.behind _ _ c.args.call _ c.lock_of-lock.ensures free _ held c.if-is_full.ensures _ noted
 
-pub returns-in_err-try_entry : goal.returns-in_err-try_entry
-returns-in_err-try_entry c =
-    let p = err_from_is_err_and c.from_residual.result c.from_residual.ensures.1 in
-    let row = laws.admitted-Err _ _ _ c.in_err-try_entry.ensures in
-    p.1 ∙ ap Err p.2 ∙ rw (rest (goal.at.returns-in_err-try_entry c).After-try_entry, row) refl
-
 pub returns : goal.returns
-returns c =
-    let none = laws.admitted-Ok _ _ _ c.in_ok-try_entry.ensures in
-    ap Ok c.reply-reply.ensures ∙ rw (rest (goal.at.returns c).After-try_entry, none) refl
+returns c = c.try_entry.ensures ∙ rw (rest c) refl
