@@ -17,7 +17,7 @@ use Rattle.refusals.specs.declared.Refusal.TheVariants.{Malformed as MalformedLi
 use Rattle.answers.specs.declared.Answer.{Answer}
 use Rattle.answers.specs.declared.Answer.TheVariants.{Refused}
 use Rattle.steps.specs.declared.reading.Step.{Step}
-use Rattle.boosting.specs.Object.{Call, Reply, State, reply}
+use Rattle.boosting.specs.Object.{Call, State}
 use Rattle.boosting.specs.Store.{closed, «open», aborting, Transaction, closed_transaction, Store, valid, transaction}
 use Rattle.boosting.specs.Rows.{
   Action,
@@ -150,9 +150,9 @@ module _ (s : State) (ts : List Transaction) (v : Sound (store_of s ts)) (d : St
       let ok : valid e ≡ true = open_valid (store_of s ts) e v p in
       rw (ok, o) (ap (λ (d : Store). first_met (call_rows d e c)) (sym is))
 
-  module _ (r : Refusal) (p : Err r ≡ admitted (first_met (call_rows (store_of s ts) e c)) (reply c s)) where
+  module _ (r : Refusal) (p : Err r ≡ admitted (first_met (call_rows (store_of s ts) e c))) where
     call_refused : step_on d (request e (call (Some c))) ≡ refuse d r
-    call_refused = step_refused d (request e (call (Some c))) r (rows_are ∙ admitted-Err _ _ r p)
+    call_refused = step_refused d (request e (call (Some c))) r (rows_are ∙ admitted-Err _ r p)
 
     pub refused-store : d ≡ (step_on d (request e (call (Some c)))).store
     refused-store = ap (λ (o : Out). o.store) (sym call_refused)
@@ -160,9 +160,9 @@ module _ (s : State) (ts : List Transaction) (v : Sound (store_of s ts)) (d : St
     pub refused-answer : Refused r ≡ (step_on d (request e (call (Some c)))).answer
     refused-answer = ap (λ (o : Out). o.answer) (sym call_refused)
 
-  module _ (a : Reply) (p : Ok a ≡ admitted (first_met (call_rows (store_of s ts) e c)) (reply c s)) where
+  module _ (p : Ok tt ≡ admitted (first_met (call_rows (store_of s ts) e c))) where
     pub call_accepted : refusal_of d (request e (call (Some c))) ≡ None
-    call_accepted = rows_are ∙ admitted-Ok _ _ _ p
+    call_accepted = rows_are ∙ admitted-Ok _ p
 
     pub done-store : (x : Store) → x ≡ (perform d e (call (Some c))).store
         → x ≡ (step_on d (request e (call (Some c)))).store

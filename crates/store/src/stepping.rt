@@ -79,8 +79,8 @@ impl Store {
         ensures store { self.new ≡ (step_on self.old (request e (on_object (Some call)))).store }
         ensures answer { answered result ≡ (step_on self.old (request e (on_object (Some call)))).answer }
     {
-        let reply = try_call(&self.object, &self.transactions, e, call)?;
-        Ok(self.accept(e, call, reply))
+        try_call(&self.object, &self.transactions, e, call)?;
+        Ok(self.accept(e, call))
     }
 
     // One request: turned away with nothing changed, or accepted and done. The rows 2 to 7 of the table stand here.
