@@ -19,7 +19,7 @@ use vocabulary::{Call, Entry};
 // The refusal, where its row is met.
 #[inline(always)]
 fn refused_when(met: bool, refusal: Refusal) -> Result<(), Refusal>
-    ensures { result ≡ admitted (when met refusal) tt }
+    ensures { result ≡ admitted (when met refusal) }
 {
     if met {
         return Err(refusal);
@@ -35,7 +35,7 @@ fn try_entry(
     e: TransactionNumber,
     noted: Option<Entry>,
 ) -> Result<(), Refusal>
-    ensures { result ≡ admitted (first_met (room_rows (store_of object.now transactions.now) e noted)) tt }
+    ensures { result ≡ admitted (first_met (room_rows (store_of object.now transactions.now) e noted)) }
 {
     let Some(entry) = noted else {
         return Ok(());
@@ -48,12 +48,16 @@ fn try_entry(
             script_full(object, transactions, key),
             Refusal::ScriptFull,
         ),
-        Entry::Pushed(_) => refused_when(queue_full(object.queue(), transactions), Refusal::QueueFull),
+        Entry::Pushed(_) => refused_when(
+            queue_full(object.queue(), transactions),
+            Refusal::QueueFull,
+        ),
         Entry::Removed(_) | Entry::Taken(_) => Ok(()),
     }
 }
 
-// Rows 8 to 12, those of a call of transaction e.
+// Rows 8 to 12, those of a call of transaction e. The rows of room ask what the call would be answered, since what it
+// notes depends on that.
 #[inline(always)]
 pub fn try_call(
     object: &SharedObject,
@@ -61,7 +65,7 @@ pub fn try_call(
     e: TransactionNumber,
     call: Call,
 ) -> Result<(), Refusal>
-    ensures { result ≡ admitted (first_met (call_rows (store_of object.now transactions.now) e call)) tt }
+    ensures { result ≡ admitted (first_met (call_rows (store_of object.now transactions.now) e call)) }
 {
     let lock = lock_of(call);
     if let Some(holder) = find_blocker(transactions, usize::from(e), lock) {
@@ -70,6 +74,5 @@ pub fn try_call(
     if transactions[e.index()].locks().is_full(lock) {
         return Err(Refusal::LocksFull);
     }
-    let noted = entry_of(call, object.reply(call));
-    try_entry(object, transactions, e, noted)
+    try_entry(object, transactions, e, entry_of(call, object.reply(call)))
 }

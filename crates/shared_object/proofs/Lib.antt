@@ -1,2 +1,2 @@
--- Calls that change nothing.
+-- The room that calls need.
 pub mod Calls

@@ -1,9 +1,7 @@
 -- The rows 2 to 7, by how the request's transaction stands and by the action; and what the rows 8 to 12 say of a call.
 -- Assumes nothing.
-use Rattle.std.proofs.Common.{◌≡◌, ℕ, zero, suc, true, false, List, refl, sym, ap, subst, ◌∙◌, arith}
+use Rattle.std.proofs.Common.{◌≡◌, ℕ, true, false, List, refl, sym, ap, subst, ◌∙◌}
 use Rattle.std.specs.Prelude.{Option, None, Some, Result, Ok, Err}
-use borrow.Author.Tests.{leb-true, leb-false}
-use Rattle.std.proofs.lemmas.List.{get_or_past}
 use Rattle.tables.proofs.Laws.{split}
 use Rattle.refusals.specs.declared.Refusal.{Refusal}
 use Rattle.refusals.specs.declared.Refusal.TheVariants.{
@@ -14,11 +12,9 @@ use Rattle.refusals.specs.declared.Refusal.TheVariants.{
   CueOutOfRange,
 }
 use Rattle.refusals.specs.declared.Refusal.TheVariants.{Malformed as MalformedLine, Aborting as IsAborting}
-use Rattle.answers.specs.declared.Answer.{Answer}
-use Rattle.answers.specs.declared.Answer.TheVariants.{Refused}
 use Rattle.steps.specs.declared.reading.Step.{Step}
-use Rattle.boosting.specs.Object.{Call, Reply, State, reply}
-use Rattle.boosting.specs.Store.{closed, «open», aborting, Transaction, closed_transaction, Store, valid, transaction}
+use Rattle.boosting.specs.Object.{Call, State}
+use Rattle.boosting.specs.Store.{closed, «open», aborting, Transaction, Store, valid, transaction}
 use Rattle.boosting.specs.Rows.{
   Action,
   begin,
@@ -33,11 +29,11 @@ use Rattle.boosting.specs.Rows.{
   first_met,
   refusal_of,
 }
-use Rattle.boosting.specs.Step.{Out, perform, refuse, step_on}
-use Rattle.boosting.specs.Sound.{Sound, ActionKey, RequestKey}
-use Rattle.boosting.proofs.Accepted.{no_call, asks, accepted_standing, step_refused, step_accepted, step_case, Accepts-abort, Accepts-roll_back}
+use Rattle.boosting.specs.Step.{perform, refuse, step_on}
+use Rattle.boosting.specs.Sound.{ActionKey, RequestKey}
+use Rattle.boosting.proofs.Accepted.{no_call, asks, accepted_valid, accepted_standing, step_refused, step_accepted, step_case, Accepts-abort, Accepts-roll_back}
 use Rattle.boosting.proofs.Sound.{request_key}
-use Rattle.boosting.proofs.StoreLaws.{range_valid, open_unclosed}
+use Rattle.transactions.specs.Number.{numbered}
 use Rattle.admission.specs.Answers.{admitted, store_of}
 use Rattle.admission.proofs.Rows.{admitted-Ok, admitted-Err}
 
@@ -51,22 +47,22 @@ asked_key q s p = subst RequestKey (sym p) (request_key s)
 
 -- ---- rows 2 to 7
 module _ (d : Store) (q : Request) where
-  pub no_number : valid q.transaction ≡ false → Err TransactionOutOfRange ≡ admitted (refusal_of d (Some q)) q.transaction
+  pub no_number : valid q.transaction ≡ false → Err TransactionOutOfRange ≡ admitted (refusal_of d (Some q))
   unfolding refusal_of first_met
   no_number v = rw v refl
 
   module _ (v : valid q.transaction ≡ true) where
     module _ (s : closed ≡ (transaction d q.transaction).standing) where
-      pub begins : q.action ≡ begin → Ok q.transaction ≡ admitted (refusal_of d (Some q)) q.transaction
+      pub begins : q.action ≡ begin → Ok tt ≡ admitted (refusal_of d (Some q))
       unfolding refusal_of first_met
       begins a = rw (a, v, ← s) refl
 
-      pub not_begun : (q.action ≡ begin → ⊥) → Err NotBegun ≡ admitted (refusal_of d (Some q)) q.transaction
+      pub not_begun : (q.action ≡ begin → ⊥) → Err NotBegun ≡ admitted (refusal_of d (Some q))
       unfolding refusal_of first_met
       not_begun n = go q.action n
         where
           go : (a : Action) → (a ≡ begin → ⊥)
-              → Err NotBegun ≡ admitted (refusal_of d (Some (record { transaction = q.transaction; action = a }))) q.transaction
+              → Err NotBegun ≡ admitted (refusal_of d (Some (record { transaction = q.transaction; action = a })))
           go begin n = absurd (n refl)
           go commit n = rw (v, ← s) refl
           go abort n = rw (v, ← s) refl
@@ -74,20 +70,20 @@ module _ (d : Store) (q : Request) where
           go (call c) n = rw (v, ← s) refl
 
     module _ (s : aborting ≡ (transaction d q.transaction).standing) where
-      pub aborting_begun : q.action ≡ begin → Err AlreadyBegun ≡ admitted (refusal_of d (Some q)) q.transaction
+      pub aborting_begun : q.action ≡ begin → Err AlreadyBegun ≡ admitted (refusal_of d (Some q))
       unfolding refusal_of first_met
       aborting_begun a = rw (a, v, ← s) refl
 
-      pub rolls_back : q.action ≡ roll_back → Ok q.transaction ≡ admitted (refusal_of d (Some q)) q.transaction
+      pub rolls_back : q.action ≡ roll_back → Ok tt ≡ admitted (refusal_of d (Some q))
       unfolding refusal_of first_met
       rolls_back a = rw (a, v, ← s) refl
 
-      pub goes_back : (q.action ≡ begin → ⊥) → (q.action ≡ roll_back → ⊥) → Err IsAborting ≡ admitted (refusal_of d (Some q)) q.transaction
+      pub goes_back : (q.action ≡ begin → ⊥) → (q.action ≡ roll_back → ⊥) → Err IsAborting ≡ admitted (refusal_of d (Some q))
       unfolding refusal_of first_met
       goes_back m n = go q.action m n
         where
           go : (a : Action) → (a ≡ begin → ⊥) → (a ≡ roll_back → ⊥)
-              → Err IsAborting ≡ admitted (refusal_of d (Some (record { transaction = q.transaction; action = a }))) q.transaction
+              → Err IsAborting ≡ admitted (refusal_of d (Some (record { transaction = q.transaction; action = a })))
           go begin m n = absurd (m refl)
           go commit m n = rw (v, ← s) refl
           go abort m n = rw (v, ← s) refl
@@ -95,42 +91,44 @@ module _ (d : Store) (q : Request) where
           go (call c) m n = rw (v, ← s) refl
 
     module _ (s : «open» ≡ (transaction d q.transaction).standing) where
-      pub open_begun : q.action ≡ begin → Err AlreadyBegun ≡ admitted (refusal_of d (Some q)) q.transaction
+      pub open_begun : q.action ≡ begin → Err AlreadyBegun ≡ admitted (refusal_of d (Some q))
       unfolding refusal_of first_met
       open_begun a = rw (a, v, ← s) refl
 
-      pub not_aborting : q.action ≡ roll_back → Err NotAborting ≡ admitted (refusal_of d (Some q)) q.transaction
+      pub not_aborting : q.action ≡ roll_back → Err NotAborting ≡ admitted (refusal_of d (Some q))
       unfolding refusal_of first_met
       not_aborting a = rw (a, v, ← s) refl
 
-      pub out_of_range : q.action ≡ call None → Err CueOutOfRange ≡ admitted (refusal_of d (Some q)) q.transaction
+      pub out_of_range : q.action ≡ call None → Err CueOutOfRange ≡ admitted (refusal_of d (Some q))
       unfolding refusal_of first_met
       out_of_range a = rw (a, v, ← s) refl
 
-      pub commits : q.action ≡ commit → Ok q.transaction ≡ admitted (refusal_of d (Some q)) q.transaction
+      pub commits : q.action ≡ commit → Ok tt ≡ admitted (refusal_of d (Some q))
       unfolding refusal_of first_met
       commits a = rw (a, v, ← s) refl
 
-      pub aborts : q.action ≡ abort → Ok q.transaction ≡ admitted (refusal_of d (Some q)) q.transaction
+      pub aborts : q.action ≡ abort → Ok tt ≡ admitted (refusal_of d (Some q))
       unfolding refusal_of first_met
       aborts a = rw (a, v, ← s) refl
 
 -- ---- rows 8 to 12, of a call of an open transaction
+numbered_is : (e n : ℕ) → Ok e ≡ numbered n → (e ≡ n) × (valid n ≡ true)
+numbered_is e n p =
+    split (valid n) (λ v. let z : ◌≡◌ {A = Result ℕ Refusal} (Ok e) (Ok n) = rw v at p in (cc, v))
+    (λ v. let z : ◌≡◌ {A = Result ℕ Refusal} (Ok e) (Err TransactionOutOfRange) = rw v at p in cc)
+
 module _ (s : State) (ts : List Transaction) (d : Store) (is : store_of s ts ≡ d) (q : Request) (c : Call)
-    (a : q.action ≡ call (Some c)) (v : valid q.transaction ≡ true) (o : «open» ≡ (transaction d q.transaction).standing) where
-  rows_are : refusal_of d (Some q) ≡ first_met (call_rows (store_of s ts) q.transaction c)
+    (a : q.action ≡ call (Some c)) (e : ℕ) (n : Ok e ≡ numbered q.transaction)
+    (o : «open» ≡ (transaction d e).standing) where
+  rows_are : refusal_of d (Some q) ≡ first_met (call_rows (store_of s ts) e c)
   unfolding refusal_of first_met
-  rows_are = rw (a, v, ← o) (ap (λ (d : Store). first_met (call_rows d q.transaction c)) (sym is))
+  rows_are =
+      let m = numbered_is e q.transaction n in
+      rw (a, m.1, ← m.0, ← o) (ap (λ (d : Store). first_met (call_rows d e c)) (sym is))
 
-  pub call_refused : (r : Refusal)
-      → ◌≡◌ {A = Result (Unit {0}) Refusal} (Err r) (admitted (first_met (call_rows (store_of s ts) q.transaction c)) tt)
-      → Err r ≡ admitted (refusal_of d (Some q)) q.transaction
-  call_refused r p = rw (rows_are, admitted-Err _ _ r p) refl
-
-  pub call_admitted :
-      ◌≡◌ {A = Result (Unit {0}) Refusal} (Ok tt) (admitted (first_met (call_rows (store_of s ts) q.transaction c)) tt)
-      → Ok q.transaction ≡ admitted (refusal_of d (Some q)) q.transaction
-  call_admitted p = rw (rows_are, admitted-Ok _ _ _ p) refl
+  pub call_decides : (r : Result (Unit {0}) Refusal) → r ≡ admitted (first_met (call_rows (store_of s ts) e c))
+      → r ≡ admitted (refusal_of d (Some q))
+  call_decides r p = p ∙ ap admitted (sym rows_are)
 
 pub ruleset row_rules = (
   no_number,
@@ -144,34 +142,33 @@ pub ruleset row_rules = (
   out_of_range,
   commits,
   aborts,
-  call_refused,
-  call_admitted,
+  call_decides,
 )
 
 -- ---- a request that is turned away changes nothing; one that is admitted is performed
 module _ (d : Store) (q : Request) where
-  pub turned_away : (r : Refusal) → Err r ≡ admitted (refusal_of d (Some q)) q.transaction → step_on d (Some q) ≡ refuse d r
-  turned_away r p = step_refused d (Some q) r (admitted-Err _ _ r p)
+  pub turned_away : (r : Refusal) → Err r ≡ admitted (refusal_of d (Some q)) → step_on d (Some q) ≡ refuse d r
+  turned_away r p = step_refused d (Some q) r (admitted-Err _ r p)
 
-  module _ (e : ℕ) (p : Ok e ≡ admitted (refusal_of d (Some q)) q.transaction) where
+  module _ (p : Ok tt ≡ admitted (refusal_of d (Some q))) where
     none_met : refusal_of d (Some q) ≡ None
-    none_met = admitted-Ok _ _ _ p
+    none_met = admitted-Ok _ p
 
-    number_is : e ≡ q.transaction
-    number_is = let z : ◌≡◌ {A = Result ℕ Refusal} (Ok e) (Ok q.transaction) = rw none_met at p in cc
+    pub has_number : valid q.transaction ≡ true
+    has_number = accepted_valid d q.transaction q.action none_met
 
-    pub admits : refusal_of d (request e q.action) ≡ None
-    admits = rw number_is none_met
+    pub admits : (e : ℕ) → e ≡ q.transaction → refusal_of d (request e q.action) ≡ None
+    admits e n = rw n none_met
 
-    pub performed : step_on d (Some q) ≡ perform d e q.action
-    performed = rw number_is (step_accepted d q.transaction q.action none_met)
+    pub performed : (e : ℕ) → e ≡ q.transaction → step_on d (Some q) ≡ perform d e q.action
+    performed e n = rw n (step_accepted d q.transaction q.action none_met)
 
 -- no request is admitted whose cue is out of range
 pub no_cue : {A : Type 0} (d : Store) (e : ℕ) (a : Action) (c : Option Call) → refusal_of d (request e a) ≡ None
     → a ≡ call c → c ≡ None → A
 no_cue d e a c m p q = no_call d e (rw (p, q) at m)
 
-pub ruleset request_rules = (turned_away, admits, performed)
+pub ruleset request_rules = (turned_away, has_number, admits, performed)
 
 -- ---- recovery's requests: one that its transaction's standing does not ask for changes nothing
 pub not_asked : (d : Store) (e : ℕ) (a : Action) → ((transaction d e).standing ≡ asks a → ⊥)

@@ -16,6 +16,7 @@ mod stepping;
 mod texts;
 
 use shared_object::SharedObject;
+use std::array;
 use std::marker::Model;
 use transactions::Transaction;
 
@@ -40,16 +41,7 @@ impl Model for Store {
 fn all_closed() -> [Transaction; 8]
     ensures { result ≡ replicate 8 closed_transaction }
 {
-    [
-        Transaction::new(),
-        Transaction::new(),
-        Transaction::new(),
-        Transaction::new(),
-        Transaction::new(),
-        Transaction::new(),
-        Transaction::new(),
-        Transaction::new(),
-    ]
+    array::from_fn(|_| Transaction::new())
 }
 
 impl Store {

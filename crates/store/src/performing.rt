@@ -1,6 +1,5 @@
 // What an accepted step does to the store, where it stands, and what it is answered; and how a transaction stands.
 ghost use Rattle.std.specs.Prelude.{◌≡◌, true, Some, None};
-ghost use Rattle.boosting.specs.Object.{reply as reply_of};
 ghost use Rattle.boosting.specs.Store.{transaction, valid, aborting};
 ghost use Rattle.boosting.specs.Rows.{begin, commit, abort, roll_back, call as on_object, refusal_of, request};
 ghost use Rattle.boosting.specs.Sound.{CallKey};
@@ -10,7 +9,7 @@ use crate::Store;
 use answers::Answer;
 use shared_object::{answer_of, entry_of, lock_of};
 use transactions::TransactionNumber;
-use vocabulary::{Call, Reply, Standing};
+use vocabulary::{Call, Standing};
 
 #[tactic(auto, unfolding(boosting::specs::Step::perform))]
 impl Store {
@@ -71,8 +70,7 @@ impl Store {
         ensures store { self.new ≡ (perform self.old e (on_object (Some call))).store }
         ensures answer { result ≡ (perform self.old e (on_object (Some call))).answer }
     {
-        let reply = self.object.reply(call);
-        self.object.apply(call, reply);
+        let reply = self.object.apply(call);
         self.transactions[e.index()].accept(lock_of(call), entry_of(call, reply));
         answer_of(reply)
     }

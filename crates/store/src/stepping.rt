@@ -71,27 +71,26 @@ fn request_of(step: Step) -> Request
 }
 
 impl Store {
-    // The transaction of a request that the store would accept as it stands; else the first row of the table that turns
-    // the request away. Nothing is changed. The rows 2 to 7 stand here.
+    // Whether the store would accept a request as it stands; else the first row of the table that turns the request
+    // away. Nothing is changed. The rows 2 to 7 stand here.
     #[inline(always)]
     #[tactic(auto, using(crate::proofs::Rows::row_rules))]
-    pub fn admit(&self, request: Request) -> Result<TransactionNumber, Refusal>
-        ensures { result ≡ admitted (refusal_of self.now (Some request)) request.transaction }
+    pub fn admit(&self, request: Request) -> Result<(), Refusal>
+        ensures { result ≡ admitted (refusal_of self.now (Some request)) }
     {
         let e = TransactionNumber::try_from(request.transaction)?;
         match (self.standing(e), request.action) {
-            (Standing::Closed, Action::Begin) => Ok(e),
+            (Standing::Closed, Action::Begin) => Ok(()),
             (_, Action::Begin) => Err(Refusal::AlreadyBegun),
             (Standing::Closed, _) => Err(Refusal::NotBegun),
-            (Standing::Aborting, Action::RollBack) => Ok(e),
+            (Standing::Aborting, Action::RollBack) => Ok(()),
             (Standing::Aborting, _) => Err(Refusal::Aborting),
             (Standing::Open, Action::RollBack) => Err(Refusal::NotAborting),
             (Standing::Open, Action::OnObject(None)) => Err(Refusal::CueOutOfRange),
             (Standing::Open, Action::OnObject(Some(call))) => {
-                try_call(&self.object, &self.transactions, e, call)?;
-                Ok(e)
+                try_call(&self.object, &self.transactions, e, call)
             }
-            (Standing::Open, Action::Commit | Action::Abort) => Ok(e),
+            (Standing::Open, Action::Commit | Action::Abort) => Ok(()),
         }
     }
 
@@ -122,7 +121,8 @@ impl Store {
         ensures store { self.new ≡ (step_on self.old (Some request)).store }
         ensures answer { answered result ≡ (step_on self.old (Some request)).answer }
     {
-        let e = self.admit(request)?;
+        self.admit(request)?;
+        let e = TransactionNumber::try_from(request.transaction)?;
         Ok(self.perform(e, request.action))
     }
 

@@ -6,6 +6,7 @@ ghost use Rattle.std.specs.Prelude.{◌≡◌, ◌+◌, ◌<◌};
 ghost use Rattle.boosting.specs.Recovery.{rising};
 
 use refusals::Refusal;
+use std::array;
 use std::marker::Model;
 
 #[derive(Clone, Copy, Debug, PartialEq, Eq)]
@@ -59,16 +60,11 @@ impl TransactionNumber {
     pub fn all() -> [TransactionNumber; 8]
         ensures { result ≡ rising }
     {
-        [
-            TransactionNumber { number: 1 },
-            TransactionNumber { number: 2 },
-            TransactionNumber { number: 3 },
-            TransactionNumber { number: 4 },
-            TransactionNumber { number: 5 },
-            TransactionNumber { number: 6 },
-            TransactionNumber { number: 7 },
-            TransactionNumber { number: 8 },
-        ]
+        array::from_fn(
+            |place|
+                requires { place < 8 }
+            { TransactionNumber { number: place + 1 } },
+        )
     }
 
     // Its place among the eight.

@@ -1,12 +1,11 @@
-use Rattle.std.proofs.Common.{◌≡◌, Err, Ok, refl, ap, ◌∙◌, arith}
-use Rattle.std.proofs.lemmas.Result.{err_from_is_err_and}
+use Rattle.std.proofs.Common.{◌≡◌, refl, ap, ◌∙◌, arith}
 use Rattle.boosting.specs.Undo.{entry_of}
-use Rattle.boosting.specs.Store.{Store, transaction}
-use Rattle.boosting.specs.Rows.{call_rows, first_met}
-use Rattle.admission.specs.Answers.{room_rows, store_of}
+use Rattle.boosting.specs.Store.{transaction}
+use Rattle.boosting.specs.Rows.{first_met}
+use Rattle.admission.specs.Answers.{store_of}
 use Rattle.admission.proofs.Rows as laws
 use Rattle.admission.proofs.try_call.Goals as goal
-use Rattle.admission.proofs.try_call.Goals.{After-is_full, After-try_entry}
+use Rattle.admission.proofs.try_call.Goals.{After-is_full}
 
 locks : (c : After-is_full)
     → (transaction (store_of c.args.object.now c.args.transactions.now) c.args.e).locks ≡ c.locks.result.now
@@ -25,14 +24,10 @@ returns-then-is_full c =
     let free = rw c.from.ensures at c.in_default.ensures.first in
     rw (← c.lock_of-lock.ensures, ← free, held, ← c.if-is_full.ensures) refl
 
-rest : (c : After-try_entry)
-    → let d : Store = store_of c.args.object.now c.args.transactions.now in
-    first_met (call_rows d c.args.e c.args.call) ≡ first_met (room_rows d c.args.e c.entry_of-noted.result)
-rest c =
-    let held = locks (goal.at.After-try_entry c).After-is_full in
-    let noted = c.entry_of-noted.ensures ∙ ap (entry_of c.args.call) c.reply.ensures in
-    let free = rw c.from.ensures at c.in_default.ensures.first in
-    laws.behind _ _ c.args.call _ c.lock_of-lock.ensures free _ held c.if-is_full.ensures _ noted
-
 pub returns : goal.returns
-returns c = c.try_entry.ensures ∙ rw (rest c) refl
+returns c =
+    let held = locks (goal.at.returns c).After-is_full in
+    let noted = c.entry_of.ensures ∙ ap (entry_of c.args.call) c.reply.ensures in
+    let free = rw c.from.ensures at c.in_default.ensures.first in
+    let rows = laws.behind _ _ c.args.call _ c.lock_of-lock.ensures free _ held c.if-is_full.ensures _ noted in
+    rw rows c.try_entry.ensures

@@ -1,11 +1,10 @@
--- The refusal of rows 8 to 12 is handed on.
-use Rattle.std.proofs.Common.{Err, ap, ◌∙◌, arith}
-use Rattle.std.proofs.lemmas.Result.{err_from_is_err_and}
-use Rattle.store.proofs.Rows.{call_refused}
+-- Rows 8 to 12 decide where no other row is met.
+use Rattle.std.proofs.Common.{rules}
+use Rattle.store.proofs.Rows.{call_decides}
 use Rattle.store.proofs.Store.admit.Goals as goal
 
-pub returns-in_err-try_call-in-Open-OnObject-Some : goal.returns-in_err-try_call-in-Open-OnObject-Some
-returns-in_err-try_call-in-Open-OnObject-Some c =
-    let x = c.from_residual-in_err-try_call-in-Open-OnObject-Some in
-    let p = err_from_is_err_and x.result x.ensures.1 in
-    p.1 ∙ ap Err p.2 ∙ search (call_refused, arith)
+pub returns-in-Open-OnObject-Some : goal.returns-in-Open-OnObject-Some
+returns-in-Open-OnObject-Some c =
+    let arm = c.in-Open-OnObject-Some in
+    call_decides _ _ _ c.self.view_is c.args.request arm.call (search rules) _ c.in_ok-e.ensures arm.ensures.value _
+    c.try_call.ensures

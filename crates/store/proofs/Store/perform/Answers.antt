@@ -9,8 +9,8 @@ roll_back-requires c = accepted_standing _ _ roll_back (rw c.in-RollBack.is at c
 
 pub returns-in-OnObject-None-clause-store : goal.returns-in-OnObject-None-clause-store
 returns-in-OnObject-None-clause-store c =
-    no_cue c.args.self.now c.args.e c.args.action c.in-OnObject-None.field-0 c.requires.accepted c.in-OnObject-None.is c.in-OnObject-None.field-0-is
+    no_cue c.args.self.now c.args.e c.args.action c.in-OnObject-None.field-0 c.requires.accepted c.in-OnObject-None.is (rw c.in-OnObject-None.is at c.in-OnObject-None.field-0-is)
 
 pub returns-in-OnObject-None-clause-answer : goal.returns-in-OnObject-None-clause-answer
 returns-in-OnObject-None-clause-answer c =
-    no_cue c.args.self.now c.args.e c.args.action c.in-OnObject-None.field-0 c.requires.accepted c.in-OnObject-None.is c.in-OnObject-None.field-0-is
+    no_cue c.args.self.now c.args.e c.args.action c.in-OnObject-None.field-0 c.requires.accepted c.in-OnObject-None.is (rw c.in-OnObject-None.is at c.in-OnObject-None.field-0-is)
