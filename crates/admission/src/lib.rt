@@ -49,7 +49,10 @@ fn try_entry(
             script_full(object, transactions, key),
             Refusal::ScriptFull,
         ),
-        Entry::Pushed(_) => refused_when(queue_full(object.queue(), transactions), Refusal::QueueFull),
+        Entry::Pushed(_) => refused_when(
+            queue_full(object.queue(), transactions),
+            Refusal::QueueFull,
+        ),
         Entry::Removed(_) | Entry::Taken(_) => Ok(()),
     }
 }
