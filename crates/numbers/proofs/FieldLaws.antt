@@ -2,20 +2,21 @@
 use mathlib.Core.Path.{◌≡◌, refl, sym, ap, ◌∙◌}
 use mathlib.Core.Bool.{Bool, true, false, cond}
 use mathlib.Core.List.{List, [], ◌∷◌}
-use mathlib.Core.Logic.{⊎_elim}
+use mathlib.Core.Logic.{inl, inr, ⊎_elim}
 use Prim.Native.Nat.{ℕ, zero, suc, ◌+◌, ◌*◌, ◌-◌, ◌^◌, ◌≤◌, ◌<◌}
 use native.Mathlib.Numerals.{add-one}
 use native.Mathlib.Omega.{arith}
 use lib.Dec.{ltb, eqb}
 use lib.ListN.{length, get_or, take, drop, length-drop, drop_of_length-le}
-use lib.Seq.{drop-cons, get_or-drop, take-length}
+use lib.Seq.{drop-cons, drop-drop, get_or-drop, take-length}
 use borrow.Author.Tests.{lt-ltb, le-ltb, eq-eqb, ltb-false, eqb-true}
 use Rattle.lines.specs.Lines.{up_to}
 use Rattle.lines.proofs.Laws.{lt_or_ge, up_le}
 use Rattle.std.specs.Prelude.{Option, Some, None}
 use Rattle.numbers.specs.declared.Field.{Field}
 use Rattle.numbers.specs.Number.{value_from, number_of}
-use Rattle.numbers.specs.Field.{field, leading, ending_at, field_at, leading_at, DigitsTo, DigitsPassed, FieldFits}
+use Rattle.numbers.specs.Field.{field, others, leading, ending_at, field_at, leading_at}
+use Rattle.numbers.specs.Field.{DigitsTo, DigitsPassed, FieldFits, NoInnerField}
 use Rattle.numbers.proofs.Laws.{ten_more, ten_le, value_more, value_end}
 use Rattle.numbers.proofs.Laws.{number_good, number_empty, number_long, number_zero, number_bad}
 
@@ -365,6 +366,31 @@ field_read s at n end e =
     let x = number_of (field (drop at s)) in
     let p = at + up_to 44 (drop at s) in
     (ending_place p end n x e, ending_value p end n x e)
+
+-- ---- a field that a comma ends
+pub no_inner : (s : List ℕ) (at : ℕ) → field_at s at ≡ None → NoInnerField s at
+no_inner s at e = record { nothing = inl (no_field s at e) }
+
+pub last_field : (s : List ℕ) (at : ℕ) (f : Field) → field_at s at ≡ Some f → f.end ≡ length s → NoInnerField s at
+last_field s at f e h =
+    let l = drop at s in
+    let p = (field_read s at f.value f.end e).0 in
+    record { nothing = inr (drop_of_length-le l {i = up_to 44 l + 1} (omega (arith, length-drop at s))) }
+
+module _ (s : List ℕ) (at : ℕ) (f : Field) (e : field_at s at ≡ Some f) where
+  pub read_number : number_of (field (drop at s)) ≡ Some f.value
+  read_number = (field_read s at f.value f.end e).1
+
+  pub read_end : at + up_to 44 (drop at s) ≡ f.end
+  read_end = (field_read s at f.value f.end e).0
+
+  pub read_behind : drop (f.end + 1) s ≡ others (drop at s)
+  read_behind =
+      let l = drop at s in
+      let j : f.end + 1 ≡ at + (up_to 44 l + 1) = omega (arith, read_end) in
+      rw j (sym (drop-drop (up_to 44 l + 1) at s))
+
+pub ruleset inner_rules = (no_inner, last_field, read_number, read_end, read_behind)
 
 pub field_fits : (size n end : ℕ) (r : Option Field) → r ≡ number_to n end → FieldFits size r
     → (end ≤ size) × (n < 1000000000)
