@@ -3,6 +3,8 @@
 // A field of a line is 1 to 9 digits with no leading zero except 0 itself; anything else is malformed. What `digits`
 // writes of a number below 1,000,000,000 is read as that number, and what is read is that number's one form. No public
 // function has a `requires`.
+//
+// Text and place are two parameters: a rule of the project wants the reader as a function on slice and number.
 #![tactic(auto)]
 
 ghost use Rattle.std.specs.Prelude.{◌≡◌, length, MatchOption};
