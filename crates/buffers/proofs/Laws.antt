@@ -1,6 +1,6 @@
 -- Laws of writing into a buffer: several stores in a row, and the two answers of `written_at`. Assumes nothing.
 use mathlib.Core.Path.{◌≡◌, refl, sym, ap, ◌∙◌}
-use mathlib.Core.Bool.{Bool, true, false, not}
+use mathlib.Core.Bool.{Bool, true, false}
 use mathlib.Core.List.{List, [], ◌∷◌, ◌++◌}
 use Prim.Native.Nat.{ℕ, suc, ◌+◌, ◌≤◌, ◌<◌}
 use native.Mathlib.Nat.{add-zero}
@@ -8,7 +8,7 @@ use native.Mathlib.Omega.{arith}
 use lib.Dec.{leb}
 use lib.ListN.{length, set}
 use lib.Seq.{sets, sets-eq}
-use borrow.Author.Tests.{le-leb, lt-leb, leb-true, leb-false, not-false}
+use borrow.Author.Tests.{le-leb, lt-leb, leb-true, leb-false}
 use Rattle.std.specs.Prelude.{Result, Ok, Err}
 use Rattle.refusals.specs.declared.Refusal.{Refusal}
 use Rattle.refusals.specs.declared.Refusal.TheVariants.{BufferTooShort}
@@ -38,10 +38,6 @@ room b all at n m e t q = let h : at + n ≤ all = leb-true _ _ (sym e ∙ t) in
 
 pub no_room : (b : Bool) (all at n m : ℕ) → b ≡ leb (at + n) all → b ≡ false → n ≡ m → all < at + m
 no_room b all at n m e t q = let h : all < at + n = leb-false _ _ (sym e ∙ t) in omega arith
-
--- the test for too little room failed
-pub has_room : (b : Bool) (n all : ℕ) → b ≡ leb n all → not b ≡ false → n ≤ all
-has_room b n all e f = leb-true n all (sym e ∙ not-false b f)
 
 -- a callee wrote where the bytes fit: what its answer was, and what it left
 pub written_back : (r : Result ℕ Refusal) (buf mid bytes : List ℕ) (at : ℕ) → at + length bytes ≤ length buf

@@ -1,4 +1,3 @@
 pub mod Answers
 pub mod Laws
-pub mod Puts
 pub mod Rest

@@ -6,14 +6,13 @@ use native.Mathlib.Omega.{arith}
 use lib.Dec.{leb}
 use mathlib.Core.Bool.{false}
 use lib.ListN.{length, length-append}
-use lib.Seq.{sets}
+use lib.Seq.{sets, length-sets}
 use Rattle.std.specs.Prelude.{Result, Ok, Err}
 use Rattle.refusals.specs.declared.Refusal.{Refusal}
 use Rattle.refusals.specs.declared.Refusal.TheVariants.{BufferTooShort}
 use Rattle.buffers.specs.Written.{written_at}
-use Rattle.buffers.proofs.Answers.{not_refused}
+use Rattle.buffers.proofs.Answers.{not_refused, put_there}
 use Rattle.buffers.proofs.Laws.{written, written_back, sets-append}
-use Rattle.buffers.proofs.Puts.{wrote, Put-room}
 
 -- where the text does not fit, the buffer stays
 pub no_room_left : (buf text : List ℕ) (at : ℕ) → leb (at + length text) (length buf) ≡ false
@@ -57,18 +56,32 @@ module _ {buf all mid rest : List ℕ} {at end : ℕ} (l : Left buf all at mid r
   pub first_fits : {u v : List ℕ} → Parts rest u v → end + length u ≤ length mid
   first_fits {u} {v} p = omega (arith, ap length p.are ∙ length-append u v, left_fits)
 
-  -- the first part fits: its writer does not refuse refuse, and leaves the second
+  -- the first part fits: its writer does not refuse, and leaves the second
   module _ {u v after : List ℕ} {r : Result ℕ Refusal} (p : Parts rest u v) (w : (r, after) ≡ written_at mid end u) where
     pub left_refused : {why : Refusal} → r ≡ Err why → ⊥
     left_refused {why} = not_refused mid after u r end why (first_fits p) w
 
     pub left_more : {next : ℕ} → r ≡ Ok next → Left buf all at after v next
     left_more {next} g =
-        let put = wrote mid after u r end next (first_fits p) w g in
+        let put = put_there mid after u r end next (first_fits p) w g in
         record {
           fits = l.fits;
-          size = Put-room mid after u end next put ∙ l.size;
-          place = omega (arith, ap length p.are ∙ length-append u v, put.place, l.place);
-          stored =
-              rw (put.place, put.stored) (sym (sets-append u v mid end)) ∙ (ap (sets mid end) (sym p.are) ∙ l.stored);
+          size = ap length put.1 ∙ (length-sets mid end u ∙ l.size);
+          place = omega (arith, ap length p.are ∙ length-append u v, put.0, l.place);
+          stored = rw (put.0, put.1) (sym (sets-append u v mid end)) ∙ (ap (sets mid end) (sym p.are) ∙ l.stored);
         }
+
+-- ---- a text in two parts
+-- where both fit, what the second writer answers and leaves is what one writer of the whole would
+pub both_written : (buf mid after u v : List ℕ) (r₁ r₂ : Result ℕ Refusal) (at middle : ℕ)
+    → at + (length u + length v) ≤ length buf → (r₁, mid) ≡ written_at buf at u → r₁ ≡ Ok middle
+    → (r₂, after) ≡ written_at mid middle v → (r₂, after) ≡ written_at buf at (u ++ v)
+both_written buf mid after u v r₁ r₂ at middle h e₁ q e₂ =
+    let p = put_there buf mid u r₁ at middle (omega arith) e₁ q in
+    let room : middle + length v ≤ length mid = omega (arith, p.0, ap length p.1 ∙ length-sets buf at u) in
+    let w = written_back r₂ mid after v middle room e₂ in
+    let n = length-append u v in
+    let all : after ≡ sets buf at (u ++ v) = w.1 ∙ rw (p.0, p.1) (sym (sets-append u v buf at)) in
+    let d : (Ok (middle + length v), after) ≡ written_at buf at (u ++ v)
+    = written buf after (u ++ v) at (middle + length v) (omega arith) (omega (arith, p.0)) all in
+    (λ i. (w.0 i, after)) ∙ d

@@ -13,7 +13,7 @@ use borrow.Author.Tests.{eqb-true}
 use Rattle.lines.specs.Lines.{up_to}
 use Rattle.lines.proofs.Laws.{lt_or_ge, up_le, up_append}
 use Rattle.digits.specs.Digits.{digits_of}
-use Rattle.numbers.specs.Field.{field}
+use Rattle.numbers.specs.Field.{field, others}
 use Rattle.numbers.specs.Number.{number_of}
 use Rattle.std.specs.Prelude.{Option, Some, None, Result, Ok, Err}
 use Rattle.digits.proofs.Laws.{none_digits}
@@ -25,7 +25,7 @@ use Rattle.cues.specs.Cue.{in_range, InRange}
 use Rattle.cues.proofs.Laws.{bounds}
 use Rattle.cue_texts.proofs.Theorems.{body_fields}
 use Rattle.cues.specs.declared.CueNumbers.{CueNumbers}
-use Rattle.cue_lines.specs.CueLine.{others, three_numbers, fields_of, cue_of_fields, cue_line_of}
+use Rattle.cue_lines.specs.CueLine.{three_numbers, fields_of, cue_of_fields, cue_line_of}
 use Rattle.cue_lines.specs.Theorems.{CueWriteThenRead, CueReadIsCanonical}
 use Rattle.cue_lines.proofs.Laws.{numbers_of, no_comma, one_comma}
 

@@ -1,17 +1,12 @@
 -- The cue that a line stands for. Assumes nothing.
-use Rattle.std.specs.Prelude.{ℕ, ◌+◌, List, drop, Option, Some, None, Result, Err}
+use Rattle.std.specs.Prelude.{ℕ, List, Option, Some, None, Result, Err}
 use Rattle.refusals.specs.declared.Refusal.{Refusal}
 use Rattle.refusals.specs.declared.Refusal.TheVariants.{Malformed}
-use Rattle.lines.specs.Lines.{up_to}
-use Rattle.numbers.specs.Field.{field}
+use Rattle.numbers.specs.Field.{field, others}
 use Rattle.numbers.specs.Number.{number_of}
 use Rattle.cues.specs.declared.Cue.{Cue}
 use Rattle.cues.specs.declared.CueNumbers.{CueNumbers}
 use Rattle.cues.specs.Ranged.{ranged}
-
--- what stands behind the first comma (44) of a line; `field` is what stands before it
-abbrev pub others : List ℕ → List ℕ
-others l = drop (up_to 44 l + 1) l
 
 -- the numbers of a cue, where all three are there
 abbrev pub three_numbers : Option ℕ → Option ℕ → Option ℕ → Option CueNumbers

@@ -7,21 +7,16 @@ ghost use Rattle.std.specs.Prelude.{◌≡◌};
 ghost use Rattle.cue_lines.specs.CueLine.{fields_of, cue_line_of};
 
 use cues::{Cue, CueNumbers};
-use numbers::{read_field, read_number};
+use numbers::{read_inner_field, read_number};
 use refusals::Refusal;
 
 // The three numbers of `time,module,pin`, without its LF, in one pass. Their range is not tried.
+#[tactic(auto, using(crate::proofs::Laws::field_rules))]
 pub fn read_fields(line: &[u8]) -> Option<CueNumbers>
     ensures { result ≡ fields_of line.now }
 {
-    let time = read_field(line, 0)?;
-    if time.end == line.len() {
-        return None;
-    }
-    let module = read_field(line, time.end + 1)?;
-    if module.end == line.len() {
-        return None;
-    }
+    let time = read_inner_field(line, 0)?;
+    let module = read_inner_field(line, time.end + 1)?;
     let pin = read_number(&line[module.end + 1..])?;
     Some(CueNumbers {
         time: time.value,

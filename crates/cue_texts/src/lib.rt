@@ -14,8 +14,8 @@ use digits::digit_count;
 use records::LineBuffer;
 use refusals::Refusal;
 
-// How many bytes the line of a cue has, with its LF. Many cues are counted before they are written, so the line is not
-// composed for it.
+// How many bytes the line of a cue has, with its LF. It stands beside `cue_line` because a text is written whole or not
+// at all: its cues are counted first, and counting composes no line.
 #[tactic(auto, using(crate::proofs::Laws::text_counted))]
 pub fn cue_length(cue: Cue) -> usize
     ensures counted { result ≡ length (cue_text cue) }

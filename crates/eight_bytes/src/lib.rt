@@ -1,6 +1,8 @@
 // Eight bytes of a text as one number, so that they are read and compared at once.
 //
 // The compiler makes one load of the eight. The public function has no `requires`.
+//
+// Text and place are two parameters: the quick path makes no value of text and place, for speed.
 #![tactic(auto)]
 
 ghost use Rattle.std.specs.Prelude.{◌+◌, ◌≤◌, ◌≡◌, length, take, drop};

@@ -18,9 +18,7 @@ const STEPS: &[u8] = b"steps";
 pub fn find_steps(input: &[u8]) -> usize
     ensures { result ≡ min (steps_place (lines_of input.now)) (length input.now) }
 {
-    let mut reader = LineReader::new(input);
-    // No `for`: the reader's iterator gives a line's bytes, and here its place is wanted.
-    while let Some(line) = reader.take_line() {
+    for line in LineReader::new(input).places() {
         if &input[line.start..line.end] == STEPS {
             return line.start;
         }

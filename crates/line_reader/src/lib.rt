@@ -18,6 +18,12 @@ pub struct LineReader<'a> {
     pub at: usize,
 }
 
+// The lines from a reader's place on, each as its place in the text and not as its bytes.
+#[derive(Drop)]
+pub struct LinePlaces<'a> {
+    reader: LineReader<'a>,
+}
+
 impl<'a> LineReader<'a> {
     ghost use Rattle.line_reader.specs.Reader.{lines_left, Taken, TookLine, TookNone};
 
@@ -52,6 +58,13 @@ impl<'a> LineReader<'a> {
         let line = self.take_line()?;
         Some(&self.text[line.start..line.end])
     }
+
+    // An iterator of the lines that are left, each as its place in the text.
+    pub fn places(self) -> LinePlaces<'a>
+        ensures { result.reader ≡ self.entry }
+    {
+        LinePlaces { reader: self }
+    }
 }
 
 impl<'a> Iterator for LineReader<'a> {
@@ -65,6 +78,21 @@ impl<'a> Iterator for LineReader<'a> {
 
     fn next(&mut self) -> Option<&'a [u8]> {
         self.next_line()
+    }
+}
+
+impl<'a> Iterator for LinePlaces<'a> {
+    ghost use Rattle.line_reader.specs.Reader.{lines_left};
+    ghost use Rattle.line_reader.specs.Places.{TookPlace};
+
+    type Item = Line;
+
+    ghost next_gives = { TookPlace };
+
+    ghost remaining = { λ places. item_count lines_left places.reader };
+
+    fn next(&mut self) -> Option<Line> {
+        self.reader.take_line()
     }
 }
 

@@ -14,8 +14,3 @@ pub join : (s : List ℕ) (at q : ℕ) (t u : List ℕ) → q ≡ at + length t 
 join s at q t u e h k =
     let d : drop (length t) (drop at s) ≡ drop q s = drop-drop (length t) at s ∙ ap (λ (i : ℕ). drop i s) (sym e) in
     rw (length-append t u, take-add (length t) (length u) (drop at s), d, h, k)
-
--- a byte in front
-pub byte_before : (s : List ℕ) (at q b : ℕ) (u : List ℕ) → q ≡ at + 1 → at < length s → get_or s at 0 ≡ b
-    → Stands s q u → Stands s at (b ∷ u)
-byte_before s at q b u e h g k = join s at q (b ∷ []) u e (one s at b h g) k

@@ -17,10 +17,8 @@ fn seek_line(text: &[u8], k: usize) -> Result<Line, usize>
     ensures is_the_line { result ≡ seek 0 (lines_of text.now) k }
     ensures within { Within text.now result }
 {
-    let mut reader = LineReader::new(text);
     let mut left = k;
-    // No `for`: the reader's iterator gives a line's bytes, and here the stretch itself is promised.
-    while let Some(line) = reader.take_line() {
+    for line in LineReader::new(text).places() {
         if left == 0 {
             return Ok(line);
         }

@@ -2,20 +2,21 @@
 use mathlib.Core.Path.{◌≡◌, refl, sym, ap, ◌∙◌}
 use mathlib.Core.Bool.{Bool, true, false, cond}
 use mathlib.Core.List.{List, [], ◌∷◌}
-use mathlib.Core.Logic.{⊎_elim}
+use mathlib.Core.Logic.{inl, inr, ⊎_elim}
 use Prim.Native.Nat.{ℕ, zero, suc, ◌+◌, ◌*◌, ◌-◌, ◌^◌, ◌≤◌, ◌<◌}
 use native.Mathlib.Numerals.{add-one}
 use native.Mathlib.Omega.{arith}
 use lib.Dec.{ltb, eqb}
 use lib.ListN.{length, get_or, take, drop, length-drop, drop_of_length-le}
-use lib.Seq.{drop-cons, get_or-drop, take-length}
+use lib.Seq.{drop-cons, drop-drop, get_or-drop, take-length}
 use borrow.Author.Tests.{lt-ltb, le-ltb, eq-eqb, ltb-false, eqb-true}
 use Rattle.lines.specs.Lines.{up_to}
 use Rattle.lines.proofs.Laws.{lt_or_ge, up_le}
 use Rattle.std.specs.Prelude.{Option, Some, None}
 use Rattle.numbers.specs.declared.Field.{Field}
 use Rattle.numbers.specs.Number.{value_from, number_of}
-use Rattle.numbers.specs.Field.{field, leading, ending_at, field_at, leading_at, DigitsTo, DigitsPassed, FieldFits}
+use Rattle.numbers.specs.Field.{field, others, leading, ending_at, field_at, leading_at}
+use Rattle.numbers.specs.Field.{DigitsTo, DigitsPassed, NoInnerField}
 use Rattle.numbers.proofs.Laws.{ten_more, ten_le, value_more, value_end}
 use Rattle.numbers.proofs.Laws.{number_good, number_empty, number_long, number_zero, number_bad}
 
@@ -122,10 +123,6 @@ many_passed s at r d e =
     let h : 9 < length (leading (drop at s)) = rw e at d in
     no_leading s at (number_long _ h)
 
-pub digits_passed : (s : List ℕ) (at end n : ℕ) (r : Option Field) → DigitsPassed s at r → r ≡ number_to n end
-    → DigitsTo s at end n
-digits_passed s at end n r d e = rw e at d
-
 pub digits_none : (s : List ℕ) (at end n : ℕ) → DigitsTo s at end n → end ≡ at → None ≡ leading_at s at
 digits_none s at end n d e =
     let z : length (leading (drop at s)) ≡ 0 = omega arith in
@@ -160,11 +157,6 @@ pub record Passed (s : List ℕ) (at i n : ℕ) : Type 0 where
   pub fits : n < 10 ^ (i - at)
   pub ends : at + length (leading (drop at s)) ≡ i + length (leading (drop i s))
   pub value : value_from n (leading (drop i s)) ≡ value_from 0 (leading (drop at s))
-
-pub passed_none : (s : List ℕ) (at : ℕ) → Passed s at at 0
-passed_none s at =
-    let z : at - at ≡ 0 = omega arith in
-    record { from = omega arith; few = omega arith; fits = rw z (omega arith); ends = refl; value = refl }
 
 pub Passed-more : (s : List ℕ) (at i n d : ℕ) → Passed s at i n → i < length s → 48 ≤ get_or s i 0 → get_or s i 0 ≤ 57
     → d ≡ get_or s i 0 - 48 → (i - at ≡ 9 → ⊥) → Passed s at (i + 1) (n * 10 + d)
@@ -366,6 +358,27 @@ field_read s at n end e =
     let p = at + up_to 44 (drop at s) in
     (ending_place p end n x e, ending_value p end n x e)
 
-pub field_fits : (size n end : ℕ) (r : Option Field) → r ≡ number_to n end → FieldFits size r
-    → (end ≤ size) × (n < 1000000000)
-field_fits size n end r e f = rw e at f
+-- ---- a field that a comma ends
+pub no_inner : (s : List ℕ) (at : ℕ) → field_at s at ≡ None → NoInnerField s at
+no_inner s at e = record { nothing = inl (no_field s at e) }
+
+pub last_field : (s : List ℕ) (at : ℕ) (f : Field) → field_at s at ≡ Some f → f.end ≡ length s → NoInnerField s at
+last_field s at f e h =
+    let l = drop at s in
+    let p = (field_read s at f.value f.end e).0 in
+    record { nothing = inr (drop_of_length-le l {i = up_to 44 l + 1} (omega (arith, length-drop at s))) }
+
+module _ (s : List ℕ) (at : ℕ) (f : Field) (e : field_at s at ≡ Some f) where
+  pub read_number : number_of (field (drop at s)) ≡ Some f.value
+  read_number = (field_read s at f.value f.end e).1
+
+  pub read_end : at + up_to 44 (drop at s) ≡ f.end
+  read_end = (field_read s at f.value f.end e).0
+
+  pub read_behind : drop (f.end + 1) s ≡ others (drop at s)
+  read_behind =
+      let l = drop at s in
+      let j : f.end + 1 ≡ at + (up_to 44 l + 1) = omega (arith, read_end) in
+      rw j (sym (drop-drop (up_to 44 l + 1) at s))
+
+pub ruleset inner_rules = (no_inner, last_field, read_number, read_end, read_behind)

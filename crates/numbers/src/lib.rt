@@ -3,10 +3,13 @@
 // A field of a line is 1 to 9 digits with no leading zero except 0 itself; anything else is malformed. What `digits`
 // writes of a number below 1,000,000,000 is read as that number, and what is read is that number's one form. No public
 // function has a `requires`.
+//
+// Text and place are two parameters: a rule of the project wants the reader as a function on slice and number.
 #![tactic(auto)]
 
-ghost use Rattle.std.specs.Prelude.{◌≡◌, length};
-ghost use Rattle.numbers.specs.Field.{field_at, leading_at, DigitsPassed, FieldFits};
+ghost use Rattle.std.specs.Prelude.{◌≡◌, length, MatchOption};
+ghost use Rattle.numbers.specs.Field.{field_at, inner_field_at, leading_at};
+ghost use Rattle.numbers.specs.Field.{DigitsPassed, FieldFits, InnerField, NoInnerField};
 ghost use Rattle.numbers.specs.Number.{number_of, NineDigits};
 
 use lines::COMMA;
@@ -65,6 +68,19 @@ pub fn read_field(s: &[u8], at: usize) -> Option<Field>
         return None;
     }
     Some(number)
+}
+
+// The field from a place on, up to a comma; none where the text ends before one.
+#[tactic(auto, using(crate::proofs::FieldLaws::inner_rules), unfolding(crate::specs::Field::inner_field_at))]
+pub fn read_inner_field(s: &[u8], at: usize) -> Option<Field>
+    ensures is_the_field { result ≡ inner_field_at s.now at }
+    ensures found { MatchOption result (NoInnerField s.now at) (λ field. InnerField s.now at field) }
+{
+    let field = read_field(s, at)?;
+    if field.end == s.len() {
+        return None;
+    }
+    Some(field)
 }
 
 // The number that a field stands for. A value is below 1,000,000,000.

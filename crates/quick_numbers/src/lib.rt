@@ -2,6 +2,10 @@
 //
 // There is none where the text ends too soon, where no digit stands there, where a number has a leading zero, and where
 // seven digits have another behind them. No public function has a `requires`.
+//
+// It stands beside `numbers` for speed: before the desk had its quick parts, the input that mostly waits took as long
+// as the plain desk, and `seven_digits` was worth 3 % (docs/BENCHMARKS.md, "The desk"). Text and place are two
+// parameters: the quick path makes no value of text and place, for speed.
 #![tactic(auto)]
 
 ghost use Rattle.std.specs.Prelude.{◌≡◌, ◌+◌, ◌-◌, ◌*◌, ◌/◌, ◌%◌, ◌^◌, ◌≤◌, drop};

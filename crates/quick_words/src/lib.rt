@@ -4,6 +4,10 @@
 // Nothing branches on the word: which one comes next cannot be guessed, and a branch that is guessed wrong costs more
 // than the look itself. So what is known of each word stands in a table, which a caller makes once. No public function
 // has a `requires`, and the crate assumes nothing of its own.
+//
+// It stands beside `step_words` for speed: before the desk had its quick parts, the input that mostly waits took as
+// long as the plain desk, and this one was worth a seventh there (docs/BENCHMARKS.md, "The desk"). Text and place are
+// two parameters: the quick path makes no value of text and place, for speed.
 #![tactic(auto)]
 
 ghost use Rattle.std.specs.Prelude.{◌≡◌, drop};

@@ -168,6 +168,3 @@ pub rest_scans : (t s : List ℕ) (at q : ℕ) (r : Option Scanned) → q ≡ at
     → QuickFits s at r
 rest_scans t s at q (Some r) e h c = scans s at r (earlier [] t s at q r e h c)
 rest_scans t s at q None e h c = tt
-
-pub found_scans : (s : List ℕ) (at : ℕ) (r : Option Scanned) (x : Scanned) → QuickFits s at r → r ≡ Some x → Scans s at x
-found_scans s at r x f e = rw e at f

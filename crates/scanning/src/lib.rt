@@ -3,6 +3,8 @@
 //
 // Most lines have a plain form, which `quick` reads in one pass, without looking for their end first. Any other line is
 // found first and then read. Any text and any place will do; a caller makes the table of words once.
+//
+// Text and place are two parameters: the quick path makes no value of text and place, for speed.
 #![tactic(auto)]
 
 mod quick;

@@ -51,13 +51,6 @@ key_room t k h there =
 pub ruleset key_rules = (key_full, key_taken, key_room)
 
 -- ---- one line
-pub by_cue : (x : Result (List ℕ) Refusal) (t : List ℕ) (l : Result Cue Refusal) (k : ℕ) (c : _) → l ≡ Ok c → k ≡ key_of c → x ≡ by_key t k
-    → x ≡ by_line t l
-by_cue x t l k c el ek e = rw el (rw ek at e)
-
-pub by_refusal : (t : List ℕ) (l : Result Cue Refusal) (r : Refusal) → l ≡ Err r → Err r ≡ by_line t l
-by_refusal t l r el = rw el
-
 key_ordered : (t u : List ℕ) (k : ℕ) → Ordered 1 t → Ok u ≡ by_key t k → Ordered 1 u
 key_ordered t u k o e = by_tests (member_of k t) (ltb (length t) 256) refl e
   where

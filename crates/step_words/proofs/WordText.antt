@@ -1,14 +1,10 @@
--- Bytes read as a word are its text, and that text is read as the word; a text is told by its bytes one by one.
--- Assumes nothing.
+-- Bytes read as a word are its text; a text is told by its bytes one by one. Assumes nothing.
 use Rattle.std.proofs.Common.{arith, refl, ◌∙◌, ◌≡◌, ℕ, suc, ◌+◌, List, [], ◌∷◌, Bool, true, false, cond, length, get_or, drop}
 use Rattle.std.proofs.Math.ListN.{drop_of_length-le}
 use Rattle.std.proofs.Math.Seq.{drop-cons}
 use Rattle.std.proofs.lemmas.Slice.Eq.{bytes_eq-Decides}
 use Rattle.std.specs.Prelude.{Some, find, bytes_eq}
-use Rattle.step_words.specs.declared.CueWord.TheVariants.{Add, Remove, Has, Push}
-use Rattle.step_words.specs.declared.NumberWord.TheVariants.{Begin, Min, Take, Commit, Undo, Back}
 use Rattle.step_words.specs.declared.Word.{Word}
-use Rattle.step_words.specs.declared.Word.TheVariants.{WithNumber, WithCue}
 use Rattle.step_words.specs.Word.{word_text, words, word_of}
 
 -- the bytes of `l` from the place `at` on are those of the text
@@ -35,17 +31,3 @@ pub is_word : (bytes : List ℕ) (word : Word) → word_of bytes ≡ Some word �
 unfolding word_of
 is_word bytes word e =
     (bytes_eq-Decides bytes (word_text word)).0 (found (λ w. bytes_eq bytes (word_text w)) word words e)
-
--- the text of each word is read as that word
-pub text_is_read : (word : Word) → word_of (word_text word) ≡ Some word
-unfolding word_of
-text_is_read (WithNumber Begin) = refl
-text_is_read (WithNumber Min) = refl
-text_is_read (WithNumber Take) = refl
-text_is_read (WithNumber Commit) = refl
-text_is_read (WithNumber Undo) = refl
-text_is_read (WithNumber Back) = refl
-text_is_read (WithCue Add) = refl
-text_is_read (WithCue Remove) = refl
-text_is_read (WithCue Has) = refl
-text_is_read (WithCue Push) = refl

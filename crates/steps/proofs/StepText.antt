@@ -18,8 +18,8 @@ use Rattle.numbers.specs.Number.{number_of}
 use Rattle.std.specs.Prelude.{Option, Some, None}
 use Rattle.digits.proofs.Laws.{none_digits}
 use Rattle.numbers.proofs.Theorems.{write_then_read, read_is_canonical}
-use Rattle.numbers.specs.Field.{field}
-use Rattle.cue_lines.specs.CueLine.{others, three_numbers, fields_of}
+use Rattle.numbers.specs.Field.{field, others}
+use Rattle.cue_lines.specs.CueLine.{three_numbers, fields_of}
 use Rattle.cue_lines.proofs.Laws.{numbers_of}
 use Rattle.cues.specs.declared.CueNumbers.{CueNumbers}
 use Rattle.step_words.specs.declared.NumberWord.{NumberWord}

@@ -1,20 +1,22 @@
 -- Laws of the step that a word and its fields make, as the code finds them one after the other. Assumes nothing.
-use Rattle.std.proofs.Common.{◌≡◌, ℕ, List, [], ◌+◌, ◌-◌, length, take, drop, refl, sym, ap, ◌∙◌, arith, zero-add, length-drop}
+use Rattle.std.proofs.Common.{◌≡◌, ℕ, List, [], ◌+◌, ◌-◌, length, take, drop, refl, sym, ap, ◌∙◌, arith, length-drop}
+use mathlib.Core.Logic.{⊎_elim}
 use lib.ListN.{drop_of_length-le}
 use lib.Seq.{take_all}
 use Rattle.std.specs.Prelude.{Option, Some, None}
 use Rattle.std.specs.Option.{option_and_then}
 use Rattle.lines.specs.Lines.{up_to}
-use Rattle.numbers.specs.Field.{field, field_at}
+use Rattle.numbers.specs.declared.Field.{Field}
+use Rattle.numbers.specs.Field.{field, others, InnerField, NoInnerField}
 use Rattle.numbers.specs.Number.{number_of}
-use Rattle.numbers.proofs.FieldLaws.{number_to, field_read, no_field}
-use Rattle.cue_lines.specs.CueLine.{others, fields_of}
+use Rattle.cue_lines.specs.CueLine.{fields_of}
 use Rattle.cue_lines.proofs.Laws.{no_comma}
 use Rattle.cues.specs.declared.CueNumbers.{CueNumbers}
 use Rattle.step_words.specs.declared.CueWord.{CueWord}
 use Rattle.step_words.specs.declared.Word.{Word}
 use Rattle.step_words.specs.declared.Word.TheVariants.{WithNumber as of_number, WithCue as of_cue}
 use Rattle.step_words.specs.Word.{word_of}
+use Rattle.steps.specs.declared.reading.Step.TheVariants.{WithCue}
 use Rattle.steps.specs.Step.{cued, step_with, step_of}
 
 pub number_nil : number_of [] ≡ None
@@ -30,27 +32,33 @@ past : (l : List ℕ) (a : ℕ) → a ≡ length l → drop (a + 1) l ≡ []
 past l a e = drop_of_length-le l {i = a + 1} (omega arith)
 
 -- ---- the fields `e,t,m,p`
-no_cue : (w : CueWord) (e : Option ℕ) → cued w e None ≡ None
-no_cue w (Some e) = refl
-no_cue w None = refl
+no_number : (w : CueWord) (e : Option ℕ) (cue : Option CueNumbers) → e ≡ None → cued w e cue ≡ None
+no_number w e cue q = rw q
+
+no_cue : (w : CueWord) (e : Option ℕ) (cue : Option CueNumbers) → cue ≡ None → cued w e cue ≡ None
+no_cue w (Some e) cue q = rw q
+no_cue w None cue q = refl
 
 module _ (w : CueWord) (l : List ℕ) where
-  pub bad_transaction : field_at l 0 ≡ None → None ≡ cued w (number_of (field l)) (fields_of (others l))
-  bad_transaction e = rw (no_field l 0 e)
+  pub transaction_missing : NoInnerField l 0 → None ≡ cued w (number_of (field l)) (fields_of (others l))
+  transaction_missing n =
+      sym (⊎_elim (no_number w _ _) (λ e. no_cue w _ _ (ap fields_of e ∙ fields_nil)) n.nothing)
 
-  module _ (e a : ℕ) (read : field_at l 0 ≡ number_to e a) where
-    behind : others l ≡ drop (a + 1) l
-    behind = ap (λ (i : ℕ). drop (i + 1) l) (sym (zero-add (up_to 44 l)) ∙ (field_read l 0 e a read).0)
+  module _ (e : Field) (read : InnerField l 0 e) where
+    behind : take (length l - (e.end + 1)) (drop (e.end + 1) l) ≡ others l
+    behind =
+        let rest = drop (e.end + 1) l in
+        take_all (length l - (e.end + 1)) rest (omega (arith, length-drop (e.end + 1) l)) ∙ read.behind
 
-    pub no_fields_behind : a ≡ length l → None ≡ cued w (number_of (field l)) (fields_of (others l))
-    no_fields_behind h = sym (rw (behind, past l a h, fields_nil) (no_cue w (number_of (field l))))
+    pub cue_missing : fields_of (take (length l - (e.end + 1)) (drop (e.end + 1) l)) ≡ None
+        → None ≡ cued w (number_of (field l)) (fields_of (others l))
+    cue_missing q = sym (no_cue w _ _ (ap fields_of (sym behind) ∙ q))
 
-    pub cue_behind : (cue : Option CueNumbers) → cue ≡ fields_of (take (length l - (a + 1)) (drop (a + 1) l))
-        → cued w (Some e) cue ≡ cued w (number_of (field l)) (fields_of (others l))
-    cue_behind cue q =
-        let all : take (length l - (a + 1)) (drop (a + 1) l) ≡ drop (a + 1) l =
-        take_all (length l - (a + 1)) (drop (a + 1) l) (omega (arith, length-drop (a + 1) l)) in
-        rw ((field_read l 0 e a read).1, behind, q, all)
+    pub cue_read : (cue : CueNumbers) → fields_of (take (length l - (e.end + 1)) (drop (e.end + 1) l)) ≡ Some cue
+        → Some (WithCue w e.value cue) ≡ cued w (number_of (field l)) (fields_of (others l))
+    cue_read cue q = rw (read.number, ap fields_of (sym behind) ∙ q) refl
+
+pub ruleset cue_rules = (transaction_missing, cue_missing, cue_read)
 
 -- ---- a line with no comma
 with_nil : (w : Option Word) → option_and_then (λ word. step_with word []) w ≡ None

@@ -8,8 +8,8 @@ use Rattle.lines.specs.Lines.{up_to}
 use Rattle.digits.specs.Digits.{digits_of}
 use Rattle.numbers.specs.Number.{number_of}
 use Rattle.numbers.proofs.Theorems.{read_is_canonical}
-use Rattle.numbers.specs.Field.{field}
-use Rattle.cue_lines.specs.CueLine.{others, fields_of}
+use Rattle.numbers.specs.Field.{field, others}
+use Rattle.cue_lines.specs.CueLine.{fields_of}
 use Rattle.cues.specs.declared.CueNumbers.{CueNumbers}
 use Rattle.step_words.specs.declared.NumberWord.{NumberWord}
 use Rattle.step_words.specs.declared.NumberWord.TheVariants.{

@@ -5,8 +5,8 @@
 use Rattle.std.specs.Prelude.{ℕ, List, Option, Some, None}
 use Rattle.std.specs.Option.{option_and_then}
 use Rattle.numbers.specs.Number.{number_of}
-use Rattle.numbers.specs.Field.{field}
-use Rattle.cue_lines.specs.CueLine.{others, fields_of}
+use Rattle.numbers.specs.Field.{field, others}
+use Rattle.cue_lines.specs.CueLine.{fields_of}
 use Rattle.cues.specs.declared.CueNumbers.{CueNumbers}
 use Rattle.step_words.specs.Word.{word_of}
 use Rattle.step_words.specs.declared.NumberWord.{NumberWord}

@@ -142,11 +142,6 @@ unfolding member_of delete_of
 delete_absent k [] m = refl
 delete_absent k (x ∷ l) m = grind (arith, delete_absent k l)
 
--- where something is a member there is one
-pub member_count : (k : ℕ) (a : List ℕ) (n : ℕ) → member_of k (take n a) ≡ true → 1 ≤ n
-unfolding member_of
-member_count k a n m = grind arith
-
 -- two rising lists with the same members are the same list
 pub ext_rising : (l m : List ℕ) → Ordered 1 l → Ordered 1 m → ((x : ℕ) → member_of x l ≡ member_of x m) → l ≡ m
 unfolding member_of

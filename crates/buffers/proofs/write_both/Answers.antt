@@ -2,7 +2,7 @@
 use Rattle.std.proofs.Common.{arith, length-append, sym}
 use Rattle.buffers.proofs.Answers.{not_refused}
 use Rattle.buffers.proofs.Laws.{no_room, room, too_short}
-use Rattle.buffers.proofs.Puts.{both_written}
+use Rattle.buffers.proofs.Rest.{both_written}
 use Rattle.buffers.proofs.write_both.Goals as goal
 
 pub returns-in_err-middle : goal.returns-in_err-middle
