@@ -1,6 +1,7 @@
 // At most 16 entries in fixed memory: the last that was put in comes out first.
 //
-// It is an array with a count and not the kit's `ArrayVec`, whose blanks would have to be entries by default.
+// It is an array with a count and not the kit's `ArrayVec`, which wants a default of what it holds. No entry is one,
+// and no derive makes one, since each kind has a key. The blanks here are entries too, but nobody sees them.
 ghost use Rattle.std.specs.Prelude.{◌≡◌, ◌<◌, ◌≤◌, [], ◌∷◌, ◌++◌, length, MatchOption};
 
 use std::marker::Model;
