@@ -32,7 +32,7 @@ use Rattle.boosting.proofs.Keeping.{call_sound}
 
 -- ---- opening
 
-all_closed : (n : ℕ) → AllSound (replicate n closed_transaction)
+pub all_closed : (n : ℕ) → AllSound (replicate n closed_transaction)
 all_closed zero = tt
 all_closed (suc n) = (closed_sound, all_closed n)
 

@@ -57,7 +57,7 @@ module _ {buf all mid rest : List ℕ} {at end : ℕ} (l : Left buf all at mid r
   pub first_fits : {u v : List ℕ} → Parts rest u v → end + length u ≤ length mid
   first_fits {u} {v} p = omega (arith, ap length p.are ∙ length-append u v, left_fits)
 
-  -- the first part fits: its writer does not refuse refuse, and leaves the second
+  -- the first part fits: its writer does not refuse, and leaves the second
   module _ {u v after : List ℕ} {r : Result ℕ Refusal} (p : Parts rest u v) (w : (r, after) ≡ written_at mid end u) where
     pub left_refused : {why : Refusal} → r ≡ Err why → ⊥
     left_refused {why} = not_refused mid after u r end why (first_fits p) w

@@ -25,7 +25,7 @@ rest_is l a = take_all (length l - a) (drop a l) (omega (arith, length-drop a l)
 values : (x y z : Option ℕ) (a b c : ℕ) → x ≡ Some a → y ≡ Some b → z ≡ Some c → numbers_of a b c ≡ three_numbers x y z
 values x y z a b c ex ey ez = rw (ex, ey, ez)
 
-number_nil : number_of [] ≡ None
+pub number_nil : number_of [] ≡ None
 unfolding number_of
 number_nil = refl
 

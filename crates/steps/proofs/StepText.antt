@@ -20,14 +20,13 @@ use Rattle.digits.proofs.Laws.{none_digits}
 use Rattle.numbers.proofs.Theorems.{write_then_read, read_is_canonical}
 use Rattle.numbers.specs.Field.{field}
 use Rattle.cue_lines.specs.CueLine.{others, three_numbers, fields_of}
-use Rattle.cue_lines.proofs.Laws.{numbers_of}
+use Rattle.cue_lines.proofs.Laws.{numbers_of, number_nil}
 use Rattle.cues.specs.declared.CueNumbers.{CueNumbers}
 use Rattle.step_words.specs.declared.NumberWord.{NumberWord}
 use Rattle.step_words.specs.declared.CueWord.{CueWord}
 use Rattle.steps.specs.declared.reading.Step.TheVariants.{WithNumber, WithCue}
 use Rattle.steps.specs.Step.{numbered, cued}
 use Rattle.steps.specs.StepText.{call_text, NineDigits, NineDigitCall}
-use Rattle.steps.proofs.Steps.{number_nil}
 
 -- ---- written, then read
 module _ (n : ℕ) (r : List ℕ) where

@@ -9,17 +9,13 @@ use Rattle.numbers.specs.Field.{field, field_at}
 use Rattle.numbers.specs.Number.{number_of}
 use Rattle.numbers.proofs.FieldLaws.{number_to, field_read, no_field}
 use Rattle.cue_lines.specs.CueLine.{others, fields_of}
-use Rattle.cue_lines.proofs.Laws.{no_comma}
+use Rattle.cue_lines.proofs.Laws.{number_nil, no_comma}
 use Rattle.cues.specs.declared.CueNumbers.{CueNumbers}
 use Rattle.step_words.specs.declared.CueWord.{CueWord}
 use Rattle.step_words.specs.declared.Word.{Word}
 use Rattle.step_words.specs.declared.Word.TheVariants.{WithNumber as of_number, WithCue as of_cue}
 use Rattle.step_words.specs.Word.{word_of}
 use Rattle.steps.specs.Step.{cued, step_with, step_of}
-
-pub number_nil : number_of [] ≡ None
-unfolding number_of
-number_nil = refl
 
 fields_nil : fields_of [] ≡ None
 unfolding up_to
