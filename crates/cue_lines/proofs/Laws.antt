@@ -5,7 +5,8 @@ use Prim.Native.Nat.{ℕ, ◌+◌, ◌-◌}
 use native.Mathlib.Nat.{zero-add}
 use native.Mathlib.Omega.{arith}
 use lib.ListN.{length, take, drop, length-drop, drop_of_length-le}
-use lib.Seq.{take_all, drop-drop}
+use lib.Seq.{drop-drop}
+use Rattle.std.proofs.lemmas.List.{take_rest}
 use Rattle.lines.specs.Lines.{up_to}
 use Rattle.numbers.specs.Field.{field, field_at}
 use Rattle.numbers.specs.Number.{number_of}
@@ -17,10 +18,6 @@ use Rattle.cue_lines.specs.CueLine.{others, three_numbers, fields_of}
 -- three numbers, as a cue's
 abbrev pub numbers_of : ℕ → ℕ → ℕ → Option CueNumbers
 numbers_of t m p = Some (record { time = t; «module» = m; pin = p })
-
--- the part behind a place is what is left
-rest_is : (l : List ℕ) (a : ℕ) → take (length l - a) (drop a l) ≡ drop a l
-rest_is l a = take_all (length l - a) (drop a l) (omega (arith, length-drop a l))
 
 values : (x y z : Option ℕ) (a b c : ℕ) → x ≡ Some a → y ≡ Some b → z ≡ Some c → numbers_of a b c ≡ three_numbers x y z
 values x y z a b c ex ey ez = rw (ex, ey, ez)
@@ -98,7 +95,7 @@ two_read l t a m b e f =
       time = (field_read l 0 t a e).1;
       «module» = rw o at r.1;
       rest =
-          rest_is l (b + 1)
+          take_rest l (b + 1)
           ∙ (ap (λ (n : ℕ). drop n l) j
           ∙ (sym (drop-drop (up_to 44 (drop (a + 1) l) + 1) (a + 1) l) ∙ ap others o));
     }

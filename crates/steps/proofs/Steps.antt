@@ -1,7 +1,7 @@
 -- Laws of the step that a word and its fields make, as the code finds them one after the other. Assumes nothing.
-use Rattle.std.proofs.Common.{◌≡◌, ℕ, List, [], ◌+◌, ◌-◌, length, take, drop, refl, sym, ap, ◌∙◌, arith, zero-add, length-drop}
+use Rattle.std.proofs.Common.{◌≡◌, ℕ, List, [], ◌+◌, ◌-◌, length, take, drop, refl, sym, ap, ◌∙◌, arith, zero-add}
 use lib.ListN.{drop_of_length-le}
-use lib.Seq.{take_all}
+use Rattle.std.proofs.lemmas.List.{take_rest}
 use Rattle.std.specs.Prelude.{Option, Some, None}
 use Rattle.std.specs.Option.{option_and_then}
 use Rattle.lines.specs.Lines.{up_to}
@@ -44,9 +44,7 @@ module _ (w : CueWord) (l : List ℕ) where
     pub cue_behind : (cue : Option CueNumbers) → cue ≡ fields_of (take (length l - (a + 1)) (drop (a + 1) l))
         → cued w (Some e) cue ≡ cued w (number_of (field l)) (fields_of (others l))
     cue_behind cue q =
-        let all : take (length l - (a + 1)) (drop (a + 1) l) ≡ drop (a + 1) l =
-        take_all (length l - (a + 1)) (drop (a + 1) l) (omega (arith, length-drop (a + 1) l)) in
-        rw ((field_read l 0 e a read).1, behind, q, all)
+        rw ((field_read l 0 e a read).1, behind, q, take_rest)
 
 -- ---- a line with no comma
 with_nil : (w : Option Word) → option_and_then (λ word. step_with word []) w ≡ None
