@@ -27,4 +27,3 @@ unfolding recover
 next d es i x h = rw (drop_more es i x h) refl
 
 pub ruleset steps_rules = (one_more, no_more)
-
