@@ -112,17 +112,16 @@ module _ (s : State) (ts : List Transaction) (i : ℕ) (t : Transaction) where
 
     pub begun : t ≡ open_transaction → store_of s (set ts i t) ≡ (perform d e begin).store
     unfolding perform put
-    begun q = did begin (ap (λ (x : Transaction). store_of s (set ts i x)) q)
+    begun q = did begin (rw q refl)
 
     pub committed : t ≡ closed_transaction → store_of s (set ts i t) ≡ (perform d e commit).store
     unfolding perform put
-    committed q = did commit (ap (λ (x : Transaction). store_of s (set ts i x)) q)
+    committed q = did commit (rw q refl)
 
     pub aborts : (x : Transaction) → i < 8 → Sound (store_of s ts) → t ≡ aborted (get_or ts i x)
         → store_of s (set ts i t) ≡ (perform d e abort).store
     unfolding perform put
-    aborts x h v q =
-        did abort (ap (λ (x : Transaction). store_of s (set ts i x)) (q ∙ ap aborted (sym (there s ts i h v x))))
+    aborts x h v q = did abort (rw (q, there s ts i h v x) refl)
 
 -- a rollback step: its newest entry r is undone, and t is what is left of the transaction
 module _ (s : State) (ts : List Transaction) (i : ℕ) (t x : Transaction) (h : i < 8) (v : Sound (store_of s ts))
