@@ -30,7 +30,7 @@ use Rattle.admission.specs.Answers.{admitted, room_rows, store_of}
 
 -- the transaction of a number stands at the place before it: what locks and log are there are its own
 module _ (s : State) (ts : List Transaction) (e i : ℕ) (t : Transaction) (p : i + 1 ≡ e) (h : i < length ts) where
-  place : transaction (store_of s ts) e ≡ get_or ts i t
+  pub place : transaction (store_of s ts) e ≡ get_or ts i t
   unfolding transaction
   place = rw (← p, add-one) (get_or_default ts i closed_transaction t h)
 

@@ -13,6 +13,7 @@ use Rattle.steps.specs.declared.reading.Step.{Step}
 use Rattle.steps.specs.declared.reading.Step.TheVariants.{WithNumber, WithCue}
 use Rattle.steps.specs.Step.{step_of}
 use Rattle.tables.proofs.Laws.{subset_length}
+use Rattle.scripts.specs.Theorems.{SoundScript}
 use Rattle.scripts.proofs.Theorems.{read_is_sound}
 use Rattle.boosting.specs.Undo.{Entry}
 use Rattle.boosting.specs.Store.{closed_transaction, Store, started, opened, transaction}
@@ -36,20 +37,21 @@ all_closed : (n : ℕ) → AllSound (replicate n closed_transaction)
 all_closed zero = tt
 all_closed (suc n) = (closed_sound, all_closed n)
 
-pub opened_is_sound : OpenedIsSound
+pub keys_sound : (keys : List ℕ) → SoundScript keys → Sound (opened keys)
 unfolding opened started closed_transaction reserved_in reserved_by takes_in takes_by
-opened_is_sound text =
-    let s = read_is_sound text in
-    record {
-      script_rising = s.rising;
-      script_in_range = s.in_range;
-      queue_rising = tt;
-      queue_in_range = tt;
-      eight = refl;
-      transactions_sound = all_closed 8;
-      script_slots = s.at_most;
-      queue_slots = omega arith;
-    }
+keys_sound keys s = record {
+  script_rising = s.rising;
+  script_in_range = s.in_range;
+  queue_rising = tt;
+  queue_in_range = tt;
+  eight = refl;
+  transactions_sound = all_closed 8;
+  script_slots = s.at_most;
+  queue_slots = omega arith;
+}
+
+pub opened_is_sound : OpenedIsSound
+opened_is_sound text = keys_sound _ (read_is_sound text)
 
 -- ---- one step
 

@@ -8,6 +8,7 @@ use session::{ROOM, run_session};
 use std::io::{self, Read, Write};
 
 // Apart from `main`, so that the bytes of a buffer of that length stay out of its proof.
+#[tactic(auto, unfolding(buffers::specs::Written::written_at))]
 fn run<R: Input + Print + AllocGlobal>(rt: &R, output: &mut [u8]) -> io::Result<()> {
     let mut input = Vec::new(rt.alloc());
     rt.reader().take(65537).read_to_end(&mut input)?;

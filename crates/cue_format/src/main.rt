@@ -8,6 +8,7 @@
 use formatting::write_report;
 use std::io::{self, Read, Write};
 
+#[tactic(auto, unfolding(buffers::specs::Written::written_at))]
 fn main(rt: HostRuntime) -> io::Result<()> {
     let mut input = Vec::new(rt.alloc());
     rt.reader().take(65537).read_to_end(&mut input)?;

@@ -11,7 +11,8 @@ use lib.ListN.{length, take, drop}
 use lib.Seq.{take-append_seam, drop-append-add}
 use borrow.Author.Tests.{eqb-true}
 use Rattle.lines.specs.Lines.{up_to}
-use Rattle.lines.proofs.Laws.{lt_or_ge, up_le, up_append}
+use Rattle.std.proofs.lemmas.Bool.{cases_lt}
+use Rattle.lines.proofs.Laws.{up_le, up_append}
 use Rattle.digits.specs.Digits.{digits_of}
 use Rattle.numbers.specs.Field.{field, others}
 use Rattle.numbers.specs.Number.{number_of}
@@ -89,7 +90,7 @@ three_values (Some a) (Some b) (Some c) t m p e =
 has_comma : (l : List ℕ) (t m p : ℕ) (s : List ℕ) → (up_to 44 s ≡ length s → fields_of l ≡ None)
     → fields_of l ≡ numbers_of t m p → up_to 44 s < length s
 has_comma l t m p s none e =
-    ⊎_elim (λ h. h) (λ h. absurd (without (none (omega (arith, up_le 44 s))))) (lt_or_ge (up_to 44 s) (length s))
+    ⊎_elim (λ h. h) (λ h. absurd (without (none (omega (arith, up_le 44 s))))) (cases_lt (up_to 44 s) (length s))
   where
     without : fields_of l ≡ None → ⊥
     without f = let w : ◌≡◌ {A = ℕ} 0 1 = cc in omega arith

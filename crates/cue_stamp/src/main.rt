@@ -24,6 +24,7 @@ fn stamp_input<R: Input + AllocGlobal>(rt: &R) -> io::Result<u32> {
     Ok(sum)
 }
 
+#[tactic(auto, unfolding(buffers::specs::Written::written_at))]
 fn main(rt: HostRuntime) -> io::Result<()> {
     let sum = stamp_input(&rt)?;
     let mut output = [0u8; 16];

@@ -4,7 +4,7 @@ use Rattle.std.proofs.Common.{decimal, arith, sym, ap, ◌∙◌}
 use mathlib.Core.Logic.{⊎_elim}
 use native.Mathlib.Nat.{pow-suc}
 use Rattle.std.proofs.lemmas.Fmt.{decimal_digit, decimal_step}
-use Rattle.lines.proofs.Laws.{lt_or_ge}
+use Rattle.std.proofs.lemmas.Bool.{cases_lt}
 use Rattle.digits.specs.Digits.{digits_at, digits_of}
 use Rattle.digits.proofs.Laws.{digits_bounded, digits_small, digits_step}
 
@@ -17,7 +17,7 @@ decimal_at (suc k) n h w =
     let p = pow-suc 10 (suc k) in
     let r = decimal_at k (n / 10) (omega arith) (omega arith) in
     decimal_step n l w ∙ (ap (λ ds. ds ++ ((48 + n % 10) ∷ [])) r ∙ sym (digits_step k n l)))
-    (lt_or_ge n 10)
+    (cases_lt n 10)
 
 pub decimal_digits : (n : ℕ) → n < 2 ^ 64 → decimal n ≡ digits_of n
 decimal_digits n w = decimal_at 19 n (omega arith) w

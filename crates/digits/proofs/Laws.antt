@@ -10,7 +10,8 @@ use lib.Dec.{ltb}
 use lib.ListN.{length, get_or, length-append, get_or-append}
 use borrow.Author.Tests.{lt-ltb, le-ltb}
 use Rattle.lines.specs.Lines.{up_to}
-use Rattle.lines.proofs.Laws.{lt_or_ge, none_one, none_append}
+use Rattle.std.proofs.lemmas.Bool.{cases_lt}
+use Rattle.lines.proofs.Laws.{none_one, none_append}
 use Rattle.digits.specs.Digits.{digits_at, digits_of}
 
 -- each law takes the code's tests as premises
@@ -59,7 +60,7 @@ digits_bounded (suc k) n =
     ⊎_elim
     (λ l. omega (arith, ap length (digits_small (suc k) n l)))
     (λ l. omega (arith, longer k n l, digits_bounded k (n / 10)))
-    (lt_or_ge n 10)
+    (cases_lt n 10)
 
 -- a number below a power of ten has no more digits than that
 pub digits_at_most : (j k n : ℕ) → n < 10 ^ suc j → length (digits_at k n) ≤ suc j
@@ -71,7 +72,7 @@ digits_at_most (suc j) (suc k) n h =
     (λ l.
     let p = pow-suc 10 (suc j) in
     omega (arith, longer k n l, digits_at_most j k (n / 10) (omega arith)))
-    (lt_or_ge n 10)
+    (cases_lt n 10)
 
 -- a leading 0 is that of 0
 pub digits_lead : (k n : ℕ) → n < 10 ^ suc k → get_or (digits_at k n) 0 0 ≡ 48 → n ≡ 0
@@ -87,7 +88,7 @@ digits_lead (suc k) n h e =
     let a = get_or-append (digits_at k (n / 10)) ((48 + n % 10) ∷ []) 0 0 (digits_pos k (n / 10)) in
     let z : n / 10 ≡ 0 = digits_lead k (n / 10) q (sym a ∙ f) in
     omega arith)
-    (lt_or_ge n 10)
+    (cases_lt n 10)
 
 -- and 0 is one digit
 pub zero_one : (n : ℕ) → n ≡ 0 → length (digits_of n) ≡ 1

@@ -57,10 +57,6 @@ DividedAt s ls p = (lines_of (take p s) ≡ before ls) × (lines_of (drop (p + 6
 abbrev DividesAs : List ℕ → Type 0
 DividesAs s = DividedAt s (lines_of s) (steps_place (lines_of s))
 
-no_lines : lines_of [] ≡ []
-unfolding lines_of
-no_lines = refl
-
 nothing : (before [] ≡ []) × (behind [] ≡ []) × (steps_place [] ≡ 0)
 unfolding before behind steps_place
 nothing = (refl, refl, refl)
@@ -79,7 +75,7 @@ divides_one s h u = rw (lines_one s h u) (by_test (is_steps s) refl)
     by_test true t =
         let b = before_here s [] t in
         let n = steps_length s t in
-        rw (steps_here s [] t) (no_lines ∙ sym b.0, lines_end s 6 (omega arith) ∙ sym b.1)
+        rw (steps_here s [] t) (lines_end [] 0 (omega arith) ∙ sym b.0, lines_end s 6 (omega arith) ∙ sym b.1)
     by_test false t =
         let b = before_later s [] t in
         let p : steps_place (s ∷ []) ≡ length s + 1 = omega (arith, steps_later s [] t, nothing.2) in
@@ -98,7 +94,7 @@ divides_more l r u hyp = rw (lines_append l r u) (by_test (is_steps l) refl)
         let b = before_here l (lines_of r) t in
         let n : 0 + 6 ≡ length l + 1 = omega (arith, steps_length l t) in
         rw (steps_here l (lines_of r) t) (
-          no_lines ∙ sym b.0,
+          lines_end [] 0 (omega arith) ∙ sym b.0,
           ap (λ (x : ℕ). lines_of (drop x (l ++ 10 ∷ r))) n
               ∙ (ap lines_of (drop-append-add l (10 ∷ r) 1) ∙ sym b.1),
         )

@@ -6,8 +6,6 @@ use mathlib.Core.List.{List, [], ◌∷◌, ◌++◌}
 use Prim.Native.Nat.{ℕ, suc, ◌+◌, ◌-◌, ◌≤◌, ◌<◌}
 use native.Mathlib.Omega.{arith}
 use native.Mathlib.Numerals.{add-one}
-use native.Mathlib.Decide.{dec_lt}
-use mathlib.Core.Logic.{◌⊎◌, inl, inr}
 use lib.Dec.{eqb}
 use lib.ListN.{length, get_or, take, drop, drop_of_length-le, length-append, length-drop}
 use lib.Seq.{drop-cons, drop-drop, take-append_seam, drop-append-add, length-take-le}
@@ -89,10 +87,6 @@ pub no_line : (s : List ℕ) (at : ℕ) → length s ≤ at → NoLine s at
 no_line s at h = record { none = lines_end s at h; at_end = h }
 
 pub ruleset line_rules = (first_line, no_line)
-
--- a number is below another or not
-pub lt_or_ge : (a b : ℕ) → (a < b) ⊎ (b ≤ a)
-lt_or_ge a b = elim (dec_lt a b) [ yes h ↦ inl h | no h ↦ inr (omega arith) ]
 
 -- ---- a stretch with no separator in it: `up_to sep d ≡ length d`
 none_cons : (t : Bool) (b sep : ℕ) (d : List ℕ) → eqb b sep ≡ t → cond t 0 (suc (up_to sep d)) ≡ suc (length d)

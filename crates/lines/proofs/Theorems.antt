@@ -16,7 +16,8 @@ use Rattle.lines.specs.Lines.{up_to, onto, lines_of}
 use Rattle.lines.specs.Line.{line_to, line_at}
 use Rattle.lines.specs.Theorems.{joined, closed, LinesJoined, LinesWithoutLF, read_on, read_from, LinesRead}
 use Rattle.lines.specs.declared.Line.{Line}
-use Rattle.lines.proofs.Laws.{lt_or_ge, lines_cons, lines_next, lines_end}
+use Rattle.std.proofs.lemmas.Bool.{cases_lt}
+use Rattle.lines.proofs.Laws.{lines_cons, lines_next, lines_end}
 
 -- ---- the lines joined again
 joined-onto : (b : ℕ) (l : List ℕ) (ls rest : List (List ℕ)) → rest ≡ l ∷ ls → joined (onto b rest) ≡ b ∷ joined rest
@@ -85,7 +86,7 @@ read_all s (suc n) at h =
     ∙ (ap (λ (ls : List (List ℕ)). take u (drop at s) ∷ ls) (read_all s n (at + u + 1) (omega arith))
     ∙ sym (lines_next s at i))))
     (λ i. rw (le-ltb at (length s) i, lines_end s at i))
-    (lt_or_ge at (length s))
+    (cases_lt at (length s))
 
 pub lines_read : LinesRead
 lines_read s reads h = read_all s reads 0 (omega arith)

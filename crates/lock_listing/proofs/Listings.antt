@@ -125,10 +125,6 @@ module _ (e : ℕ) (l : Locks) (j : ℕ) where
       let g : j < length l.cues = omega (arith, ap length q) in
       record { are = locks_next k g ∙ rw (r, q) refl }
 
-  pub locks_over : length l.cues ≤ j → locks_from e l j ≡ modes_text e l
-  unfolding lock_lines
-  locks_over h = rw (drop_all j l.cues h) refl
-
 -- ---- all eight
 -- the lines of the transactions from place i on, which is number i + 1
 abbrev pub listing_after : List Transaction → ℕ → List ℕ
@@ -165,7 +161,5 @@ in_order ts at before w =
 pub no_listing : (ts : List Transaction) (at : ℕ) (buf : List ℕ) → leb (at + length (listing_text ts)) (length buf) ≡ false
     → ListingWritten ts at buf buf (Err BufferTooShort)
 no_listing ts at buf h = in_order ts at buf (no_room_left buf (listing_text ts) at h)
-
-pub ruleset locks_rules = (locks_next_length, locks_over)
 
 pub ruleset listing_rules = (listing_next_length, listing_over, no_listing)

@@ -59,7 +59,7 @@ fn mode_lines(e: u64, locks: &HeldLocks) -> LineBuffer
 
 // How many bytes the lines of a transaction's locks have. The listing is written whole or not at all, so they are
 // counted first.
-#[tactic(auto, using(crate::proofs::Listings::locks_rules))]
+#[tactic(auto, using(crate::proofs::Listings::locks_next_length), unfolding(boosting::specs::Listing::lock_lines))]
 fn locks_length(e: u64, locks: &HeldLocks) -> usize
     ensures counted { result ≡ length (locks_text e locks.now) }
     ensures short { result ≤ 2229 }
@@ -86,7 +86,6 @@ pub fn listing_length(transactions: &[Transaction; 8]) -> usize
 }
 
 // Writes the lines of a transaction's locks at a place where they fit.
-#[tactic(auto, using(crate::proofs::Listings::locks_rules))]
 fn write_locks(buf: &mut [u8], at: usize, e: u64, locks: &HeldLocks) -> Result<usize, Refusal>
     requires { at + length (locks_text e locks.now) ≤ length buf.old }
     ensures { (result, buf.new) ≡ written_at buf.old at (locks_text e locks.now) }

@@ -11,7 +11,8 @@ use lib.ListN.{length, get_or, take, drop, length-drop, drop_of_length-le}
 use lib.Seq.{drop-cons, drop-drop, get_or-drop, take-length}
 use borrow.Author.Tests.{lt-ltb, le-ltb, eq-eqb, ltb-false, eqb-true}
 use Rattle.lines.specs.Lines.{up_to}
-use Rattle.lines.proofs.Laws.{lt_or_ge, up_le}
+use Rattle.std.proofs.lemmas.Bool.{cases_lt}
+use Rattle.lines.proofs.Laws.{up_le}
 use Rattle.std.specs.Prelude.{Option, Some, None}
 use Rattle.numbers.specs.declared.Field.{Field}
 use Rattle.numbers.specs.Number.{value_from, number_of}
@@ -105,7 +106,7 @@ number_none l k h m e =
     ⊎_elim
     (λ g. number_past l k g m)
     (λ g. let z : length (leading l) ≡ k = omega arith in number_same l k z ∙ e)
-    (lt_or_ge (length (leading l)) k)
+    (cases_lt (length (leading l)) k)
 
 -- ---- the number of the digits at a place: what the tests of the code show
 lead_byte : (s : List ℕ) (at : ℕ) → 0 < length (leading (drop at s)) → get_or (leading (drop at s)) 0 0 ≡ get_or s at 0
@@ -296,7 +297,7 @@ not_there l k f =
     let e : up_to 44 l ≡ length (leading l) = omega (arith, lead_up l) in
     let g : up_to 44 l < length l = omega arith in
     absurd (f (ap (λ (i : ℕ). get_or l i 0) (sym e) ∙ up_stands 44 l g)))
-    (lt_or_ge (length (leading l)) (up_to 44 l))
+    (cases_lt (length (leading l)) (up_to 44 l))
 
 -- the byte behind the digits
 behind : (s : List ℕ) (at n end : ℕ) → leading_at s at ≡ number_to n end

@@ -11,7 +11,7 @@ use lib.Dec.{ltb, eqb}
 use lib.ListN.{length, get_or, take}
 use lib.Seq.{take-suc, take_all, length-take-le, get_or-take}
 use borrow.Author.Tests.{lt-ltb, le-ltb, ltb-false, eqb-true, eqb-false}
-use Rattle.lines.proofs.Laws.{lt_or_ge}
+use Rattle.std.proofs.lemmas.Bool.{cases_lt}
 use Rattle.digits.specs.Digits.{digits_at, digits_of}
 use Rattle.digits.proofs.Laws.{digits_pos, digits_step, digits_small, digits_at_most, digits_lead, zero_one}
 use Rattle.std.specs.Prelude.{Option, Some, None}
@@ -64,7 +64,7 @@ value_at (suc k) n h =
     (num_append (digits_at k (n / 10)) ((48 + n % 10) ∷ []) 0
     ∙ (ap (λ (x : Option ℕ). and_then x ((48 + n % 10) ∷ [])) (value_at k (n / 10) q)
     ∙ (num_one (n / 10) (n % 10) d ∙ ap Some e))))
-    (lt_or_ge n 10)
+    (cases_lt n 10)
 
 -- ---- one way: what is written is read
 pub write_then_read : WriteThenRead
@@ -121,7 +121,7 @@ one_digit s n e f =
 positive : (m : ℕ) (s : List ℕ) (n : ℕ) → length s ≡ suc m → (get_or s 0 0 ≡ 48 → ⊥) → value_from 0 s ≡ Some n → 0 < n
 positive zero s n e h f =
     let o = one_digit s n e f in
-    ⊎_elim (λ l. l) (λ l. absurd (h (let u : get_or s 0 0 ≡ 48 = omega (arith, o.2) in u))) (lt_or_ge 0 n)
+    ⊎_elim (λ l. l) (λ l. absurd (h (let u : get_or s 0 0 ≡ 48 = omega (arith, o.2) in u))) (cases_lt 0 n)
 positive (suc m) s n e h f =
     let p = take (suc m) s in
     let b = get_or s (suc m) 0 in
@@ -160,7 +160,7 @@ canonical (suc m) (suc k) s n e h u f =
     )
 
 test_pos : (s : List ℕ) → eqb (length s) 0 ≡ false → 0 < length s
-test_pos s x = ⊎_elim (λ l. l) (λ l. absurd (eqb-false (length s) 0 x (omega arith))) (lt_or_ge 0 (length s))
+test_pos s x = ⊎_elim (λ l. l) (λ l. absurd (eqb-false (length s) 0 x (omega arith))) (cases_lt 0 (length s))
 
 -- which tests of `number_of` a value has passed
 passed : (s : List ℕ) (n : ℕ) → number_of s ≡ Some n

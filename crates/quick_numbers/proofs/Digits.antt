@@ -5,7 +5,7 @@ use lib.Bits.{bit_and, bit_or, and_shr, or_shr, and_mod, or_mod, and_block, and_
 use lib.Count.{count_trailing_zeros, under}
 use lib.Pow.{split}
 use borrow.Author.Tests.{lt-leb}
-use Rattle.lines.proofs.Laws.{lt_or_ge}
+use Rattle.std.proofs.lemmas.Bool.{cases_lt}
 use Rattle.std.specs.Prelude.{Some}
 use Rattle.numbers.specs.Number.{value_from}
 use Rattle.numbers.specs.Field.{leading}
@@ -108,7 +108,7 @@ larger_found (suc k) t z s q e f =
     let high : r / 256 ≡ bit_and (bit_or (s / 256) (z / 256)) (each k 128) =
     and_shr (bit_or s z) (each (suc k) 128) 8
     ∙ (ap (λ (x : ℕ). bit_and (bit_or s z / 256) x) d ∙ ap (λ (x : ℕ). bit_and x (each k 128)) (or_shr s z 8)) in
-    go r low high (larger_found k (8 * k) (z / 256) (s / 256) q refl) (lt_or_ge 9 (z % 256))
+    go r low high (larger_found k (8 * k) (z / 256) (s / 256) q refl) (cases_lt 9 (z % 256))
   where
     go : (r : ℕ) → r % 256 ≡ bit_and (bit_or (s % 256) (z % 256)) 128
         → r / 256 ≡ bit_and (bit_or (s / 256) (z / 256)) (each k 128)
@@ -183,8 +183,8 @@ pub no_lead : (b : ℕ) (l : List ℕ) → (48 ≤ b → b ≤ 57 → ⊥) → l
 no_lead b l f =
     ⊎_elim
     (λ h. lead_low (b ∷ l) 0 (omega arith) h)
-    (λ h. ⊎_elim (λ g. lead_high (b ∷ l) 0 (omega arith) h g) (λ g. absurd (f h g)) (lt_or_ge 57 b))
-    (lt_or_ge b 48)
+    (λ h. ⊎_elim (λ g. lead_high (b ∷ l) 0 (omega arith) h g) (λ g. absurd (f h g)) (cases_lt 57 b))
+    (cases_lt b 48)
 
 pub told : (l : List ℕ) (z r : ℕ) → AllBytes l → number_from l + above (length l) r ≡ z + each (length l) 48
     → Told (leading l) (length l) z
@@ -220,4 +220,4 @@ told (b ∷ l) z r a e =
           ∙ (ap (λ (x : ℕ). value_from (v * 10 + x) (leading l)) w ∙ i.value (v * 10 + z % 256));
       first = λ g. is;
     }))
-    (lt_or_ge 9 (z % 256))
+    (cases_lt 9 (z % 256))

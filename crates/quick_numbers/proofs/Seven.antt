@@ -1,7 +1,7 @@
 -- Laws of at most seven digits read from eight bytes. Assumes nothing.
 use Rattle.std.proofs.Common.{◌≡◌, ℕ, ◌+◌, ◌-◌, ◌*◌, ◌/◌, ◌%◌, ◌^◌, ◌<◌, ◌≤◌, List, length, take, drop, sym, refl, ap, ◌∙◌, ⊎_elim, arith, length-drop, length-take-le}
 use Rattle.std.specs.Prelude.{Some, None}
-use Rattle.lines.proofs.Laws.{lt_or_ge}
+use Rattle.std.proofs.lemmas.Bool.{cases_lt}
 use Rattle.numbers.specs.Field.{leading}
 use Rattle.numbers.proofs.Laws.{number_good, number_empty, number_zero}
 use Rattle.eight_bytes.specs.Eight.{number_from, AllBytes, eight_at}
@@ -38,10 +38,10 @@ module _ (s : List ℕ) (at x z n : ℕ) (found : Some x ≡ eight_at s at)
       ⊎_elim
       (λ g. short_many 7 8 (drop at s) _ refl (omega (arith, count)))
       (λ g. short_bad 7 8 (drop at s) _ refl (number_empty _ (count ∙ none g)))
-      (lt_or_ge 7 n)
+      (cases_lt 7 n)
     where
       none : n ≤ 7 → n ≡ 0
-      none g = ⊎_elim (λ o. absurd (h o g)) (λ o. omega arith) (lt_or_ge 0 n)
+      none g = ⊎_elim (λ o. absurd (h o g)) (λ o. omega arith) (cases_lt 0 n)
 
   pub leading_zero : n ≤ 7 → 1 + z % 256 * 9 < n → None ≡ short_of 7 8 (drop at s)
   leading_zero g h =

@@ -1,7 +1,6 @@
 -- Laws of a number of one digit or two, each read as the byte less 48 modulo 2 ^ 64. Assumes nothing.
 use Rattle.std.proofs.Common.{◌≡◌, ℕ, ◌+◌, ◌-◌, ◌*◌, ◌%◌, ◌^◌, ◌<◌, ◌≤◌, List, [], ◌∷◌, length, get_or, take, drop, refl, ap, ◌∙◌, arith, length-drop, drop-cons}
 use lib.ListN.{drop_of_length-le}
-use lib.Seq.{take_all}
 use Rattle.std.proofs.Common.{sym, length-take-le}
 use Rattle.std.specs.Array.{IsFirstChunk}
 use Rattle.std.specs.Prelude.{Some, None}
@@ -43,10 +42,6 @@ two_number a b h g z =
 pub no_text : (s : List ℕ) (at most window : ℕ) → 0 < window → length s < at + window
     → None ≡ short_of most window (drop at s)
 no_text s at most window w h = short_text most window (drop at s) (omega (arith, length-drop at s))
-
--- what stands from a place on
-pub rest_is : (s : List ℕ) (at : ℕ) → take (length s - at) (drop at s) ≡ drop at s
-rest_is s at = take_all (length s - at) (drop at s) (omega (arith, length-drop at s))
 
 -- two bytes at the front of a text, as the digits a and b
 module _ (l t : List ℕ) (chunk : IsFirstChunk l t 2) (a b : ℕ) (first : (a + 48) % 2 ^ 64 ≡ get_or t 0 0)

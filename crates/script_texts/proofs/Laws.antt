@@ -3,7 +3,6 @@ use Rattle.std.proofs.Common.{◌≡◌, ℕ, ◌+◌, ◌≤◌, ◌<◌, min, 
 use Rattle.std.proofs.Common.{add-one, length-append}
 use Rattle.std.proofs.Math.Nat.{min_comm}
 use Rattle.std.proofs.Math.Seq.{drop-cons}
-use Rattle.std.proofs.Math.ListN.{drop_of_length-le}
 use Rattle.std.proofs.lemmas.List.{take_all, take_min}
 use Rattle.std.specs.Prelude.{Result}
 use Rattle.refusals.specs.declared.Refusal.{Refusal}
@@ -28,10 +27,6 @@ pub text_parts : (ks : List ℕ) (i : ℕ) (c : Cue) → c ≡ cue_of (get_or ks
     → Parts (text_of (drop i ks)) (cue_text c) (text_of (drop (i + 1) ks))
 text_parts ks i c e h = record { are = rw e (text_more ks i h) }
 
-pub text_end : (ks : List ℕ) (i : ℕ) → length ks ≤ i → text_of (drop i ks) ≡ []
-unfolding text_of
-text_end ks i h = rw (drop_of_length-le ks h)
-
 pub few_taken : (n : ℕ) (ks : List ℕ) → n ≡ min (length ks) 256 → take n ks ≡ take 256 ks
 few_taken n ks e = rw e (ap (λ (m : ℕ). take m ks) (min_comm (length ks) 256) ∙ take_min 256 ks)
 
@@ -47,5 +42,3 @@ written_whole buf ks at {mid} {first} q w =
     record { written = w ∙ ap by q; whole = λ h. w ∙ ap by (q ∙ take_all 256 ks h) }
 
 pub ruleset take_rules = (few_taken, take_all)
-
-pub ruleset text_rules = (text_more_length, text_end)

@@ -26,7 +26,7 @@ fn first_keys(keys: &[u64]) -> &[u64]
 
 // How many bytes the lines of a table's cues have, of the first 256. They are written whole or not at all, so they are
 // counted first, and counting composes no line.
-#[tactic(auto, using(crate::proofs::Laws::text_rules))]
+#[tactic(auto, using(crate::proofs::Laws::text_more_length), unfolding(scripts::specs::ScriptText::text_of))]
 pub fn cues_length(keys: &[u64]) -> usize
     ensures counted { result ≡ length (text_of (take 256 keys.now)) }
     ensures whole { length keys.now ≤ 256 → result ≡ length (text_of keys.now) }

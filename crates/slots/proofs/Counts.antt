@@ -1,7 +1,7 @@
 -- Entries and take entries, counted transaction by transaction; no log keeps more slots than it has entries. Assumes
 -- nothing.
 use Rattle.std.proofs.Common.{◌≡◌, ℕ, ◌+◌, ◌<◌, ◌≤◌, List, [], ◌∷◌, length, get_or, drop, refl, arith}
-use Rattle.std.proofs.lemmas.List.{drop_more, drop_all}
+use Rattle.std.proofs.lemmas.List.{drop_more}
 use Rattle.tables.proofs.Laws.{length_once}
 use Rattle.boosting.specs.Undo.{Entry, added, removed, pushed, taken}
 use Rattle.boosting.specs.Store.{Transaction}
@@ -17,14 +17,6 @@ module _ (i : ℕ) (ts : List Transaction) (t : Transaction) (h : i < length ts)
   unfolding takes_in
   takes_next = rw (drop_more ts i t h, ← is) refl
 
-pub entries_over : (i : ℕ) (ts : List Transaction) → length ts ≤ i → entries_in (drop i ts) ≡ 0
-unfolding entries_in
-entries_over i ts h = rw (drop_all i ts h) refl
-
-pub takes_over : (i : ℕ) (ts : List Transaction) → length ts ≤ i → takes_in (drop i ts) ≡ 0
-unfolding takes_in
-takes_over i ts h = rw (drop_all i ts h) refl
-
 -- a log keeps no more slots of the script than it has entries
 pub length_by : (log : List Entry) (l : List ℕ) → length (reserved_by log l) ≤ length l + length log
 unfolding reserved_by
@@ -39,5 +31,3 @@ pub length_in : (ts : List Transaction) (l : List ℕ) → length (reserved_in t
 unfolding reserved_in entries_in
 length_in [] l = omega arith
 length_in (t ∷ ts) l = omega (arith, length_in ts l, length_by t.log (reserved_in ts l))
-
-pub ruleset count_rules = (entries_next, takes_next, entries_over, takes_over)

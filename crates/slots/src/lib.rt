@@ -21,7 +21,7 @@ use vocabulary::Entry;
 const MOST: usize = 385;
 
 // How many entries the logs have together: an entry keeps at most one slot, of the script or of the queue.
-#[tactic(auto, using(crate::proofs::Counts::count_rules))]
+#[tactic(auto, using(crate::proofs::Counts::entries_next), unfolding(crate::specs::Entries::entries_in))]
 fn all_entries(transactions: &[Transaction; 8]) -> usize
     ensures value { result ≡ entries_in transactions.now }
     ensures fits { result ≤ 128 }
@@ -34,7 +34,7 @@ fn all_entries(transactions: &[Transaction; 8]) -> usize
 }
 
 // The queue's slots in use: its cues, and the take entries of the logs.
-#[tactic(auto, using(crate::proofs::Counts::count_rules))]
+#[tactic(auto, using(crate::proofs::Counts::takes_next), unfolding(boosting::specs::Room::takes_in))]
 fn queue_slots(queue: &[u64], transactions: &[Transaction; 8]) -> usize
     ensures { result ≡ length queue.now + takes_in transactions.now }
 {

@@ -1,14 +1,13 @@
 -- A store that is opened: the keys of the script read, an empty queue, eight closed transactions. Assumes nothing.
-use Rattle.std.proofs.Common.{◌≡◌, ℕ, zero, suc, List, [], replicate, refl, sym, ap, subst, ◌∙◌, arith}
+use Rattle.std.proofs.Common.{◌≡◌, ℕ, List, [], replicate, sym, ap, subst, ◌∙◌, arith}
 use Rattle.std.specs.Prelude.{Result, Ok, Err}
 use Rattle.refusals.specs.declared.RefusedText.{RefusedText}
 use Rattle.scripts.specs.Script.{script_of, script_or_empty}
 use Rattle.boosting.specs.Object.{State}
 use Rattle.boosting.specs.Store.{Transaction, closed_transaction, started, opened}
-use Rattle.boosting.specs.Room.{reserved_by, reserved_in, takes_by, takes_in}
-use Rattle.boosting.specs.Sound.{AllSound, Sound}
-use Rattle.boosting.proofs.Keeping.{closed_sound}
+use Rattle.boosting.specs.Sound.{Sound}
 use Rattle.boosting.proofs.Theorems.{opened_is_sound}
+use Rattle.boosting.proofs.Sound.{keys_sound}
 
 -- the store of the empty script
 pub new_is : (s : State) (ts : List Transaction) → s ≡ started [] → ts ≡ replicate 8 closed_transaction
@@ -16,22 +15,8 @@ pub new_is : (s : State) (ts : List Transaction) → s ≡ started [] → ts ≡
 unfolding opened
 new_is s ts q r = λ i. record { state = q i; transactions = r i }
 
-all_sound : (n : ℕ) → AllSound (replicate n closed_transaction)
-all_sound zero = tt
-all_sound (suc n) = (closed_sound, all_sound n)
-
 empty_sound : Sound (opened [])
-unfolding opened started closed_transaction reserved_in reserved_by takes_in takes_by
-empty_sound = record {
-  script_rising = tt;
-  script_in_range = tt;
-  queue_rising = tt;
-  queue_in_range = tt;
-  eight = refl;
-  transactions_sound = all_sound 8;
-  script_slots = omega arith;
-  queue_slots = omega arith;
-}
+empty_sound = keys_sound [] (record { rising = tt; in_range = tt; at_most = omega arith })
 
 pub new-Sound : (s : State) (ts : List Transaction) → s ≡ started [] → ts ≡ replicate 8 closed_transaction
     → Sound (record { state = s; transactions = ts })

@@ -23,7 +23,6 @@ use Rattle.std.proofs.Common.{
   add-one,
 }
 use lib.Seq.{get_or-set_same}
-use Rattle.std.proofs.lemmas.List.{get_or_default}
 use Rattle.std.specs.Prelude.{Option, None, Some}
 use Rattle.answers.specs.declared.Answer.{Answer}
 use Rattle.answers.specs.declared.Answer.TheVariants.{Left}
@@ -53,6 +52,7 @@ use Rattle.shared_object.specs.Room.{HasRoom}
 use Rattle.undo_logs.specs.Log.{newest, older}
 use Rattle.transactions.specs.Steps.{accepted, unwound_once}
 use Rattle.admission.specs.Answers.{store_of}
+use Rattle.admission.proofs.Rows.{place}
 
 -- what is true of the store by its fields is true of its value, and by a transaction's place, of its number
 pub by_value : {A : Type 0} (f : Store → ℕ → A) (d d' : Store) (i e : ℕ) → d ≡ d' → i + 1 ≡ e → f d (suc i) ≡ f d' e
@@ -66,24 +66,27 @@ room : (d : Store) → Sound d → HasRoom d.state
 room d v = let h = sound_has_room d v in record { script = h.0.at_most; queue = h.1 }
 
 module _ (s : State) (ts : List Transaction) (i : ℕ) (h : i < 8) (v : Sound (store_of s ts)) (x : Transaction) where
-  pub there : transaction (store_of s ts) (suc i) ≡ get_or ts i x
-  unfolding transaction
-  there = get_or_default ts i closed_transaction x (let n = v.eight in omega arith)
+  placed : (e : ℕ) → i + 1 ≡ e → transaction (store_of s ts) e ≡ get_or ts i x
+  placed e p = place s ts e i x p (let n = v.eight in omega arith)
+
+  there : transaction (store_of s ts) (suc i) ≡ get_or ts i x
+  there = placed (suc i) (add-one i)
 
   module _ (d : Store) (e : ℕ) (is : store_of s ts ≡ d) (p : i + 1 ≡ e) where
+    found : get_or ts i x ≡ transaction d e
+    found = sym (placed e p) ∙ ap (λ (d : Store). transaction d e) is
+
     pub stands : (y : Standing) → (transaction d e).standing ≡ y → (get_or ts i x).standing ≡ y
-    stands y q =
-        ap (λ (t : Transaction). t.standing) (sym there) ∙ by_value (λ d e. (transaction d e).standing) _ _ _ _ is p ∙ q
+    stands y q = ap (λ (t : Transaction). t.standing) found ∙ q
 
     pub standing_is : (z : Standing) → z ≡ (get_or ts i x).standing → z ≡ (transaction d e).standing
     standing_is z r = r ∙ stands _ refl
 
     pub number_is : valid e ≡ true
-    number_is = sym (by_value (λ d e. valid e) d d i e refl p) ∙ place_valid i h
+    number_is = range_valid e (omega arith) (omega arith)
 
     pub log_is : (log : List Entry) → log ≡ (get_or ts i x).log → log ≡ (transaction d e).log
-    log_is log r =
-        r ∙ ap (λ (t : Transaction). t.log) (sym there) ∙ by_value (λ d e. (transaction d e).log) _ _ _ _ is p
+    log_is log r = r ∙ ap (λ (t : Transaction). t.log) found
 
 -- a transaction that begins, closes, aborts
 module _ (s : State) (ts : List Transaction) (i : ℕ) (t : Transaction) where
@@ -109,17 +112,16 @@ module _ (s : State) (ts : List Transaction) (i : ℕ) (t : Transaction) where
 
     pub begun : t ≡ open_transaction → store_of s (set ts i t) ≡ (perform d e begin).store
     unfolding perform put
-    begun q = did begin (ap (λ (x : Transaction). store_of s (set ts i x)) q)
+    begun q = did begin (rw q refl)
 
     pub committed : t ≡ closed_transaction → store_of s (set ts i t) ≡ (perform d e commit).store
     unfolding perform put
-    committed q = did commit (ap (λ (x : Transaction). store_of s (set ts i x)) q)
+    committed q = did commit (rw q refl)
 
     pub aborts : (x : Transaction) → i < 8 → Sound (store_of s ts) → t ≡ aborted (get_or ts i x)
         → store_of s (set ts i t) ≡ (perform d e abort).store
     unfolding perform put
-    aborts x h v q =
-        did abort (ap (λ (x : Transaction). store_of s (set ts i x)) (q ∙ ap aborted (sym (there s ts i h v x))))
+    aborts x h v q = did abort (rw (q, there s ts i h v x) refl)
 
 -- a rollback step: its newest entry r is undone, and t is what is left of the transaction
 module _ (s : State) (ts : List Transaction) (i : ℕ) (t x : Transaction) (h : i < 8) (v : Sound (store_of s ts))
@@ -221,17 +223,17 @@ module _ (s : State) (ts : List Transaction) (v : Sound (store_of s ts)) (d : St
 
   module _ (i : ℕ) (h : i < 8) (p : i + 1 ≡ e) (x : Transaction) (r : Reply) (l : Lock) (n : Option Entry)
       (known : r ≡ reply c s) (le : l ≡ lock_of c) (ne : n ≡ entry_of c r) where
-    place : transaction (store_of s ts) e ≡ get_or ts i x
-    place = sym (by_value (λ d e. transaction d e) (store_of s ts) _ i e refl p) ∙ there s ts i h v x
+    at_place : transaction (store_of s ts) e ≡ get_or ts i x
+    at_place = placed s ts i h v x e p
 
     entry_is : n ≡ entry_of c (reply c s)
     entry_is = ne ∙ ap (entry_of c) known
 
     pub lock-room : locks_full l (get_or ts i x).locks ≡ false
-    lock-room = rw (← place, le) (accepted_call _ e c accepts).locks
+    lock-room = rw (← at_place, le) (accepted_call _ e c accepts).locks
 
     pub log-room : log_full n (get_or ts i x).log ≡ false
-    log-room = rw (← place, entry_is) (accepted_call _ e c accepts).log
+    log-room = rw (← at_place, entry_is) (accepted_call _ e c accepts).log
 
     module _ (s' : State) (t : Transaction) (q : s' ≡ effect c s) (u : t ≡ accepted l n (get_or ts i x)) where
       called : store_of s' (set ts i t) ≡ (perform (store_of s ts) e (call (Some c))).store
@@ -239,7 +241,7 @@ module _ (s : State) (ts : List Transaction) (v : Sound (store_of s ts)) (d : St
       called =
           let y : transaction (store_of s ts) (suc i) ≡ get_or ts i x = there s ts i h v x in
           let o : (get_or ts i x).standing ≡ «open» =
-          ap (λ (t : Transaction). t.standing) (sym place) ∙ accepted_standing _ e (call (Some c)) accepts in
+          ap (λ (t : Transaction). t.standing) (sym at_place) ∙ accepted_standing _ e (call (Some c)) accepts in
           let w : accepted l n (get_or ts i x) ≡ record {
             standing = «open»;
             locks = hold (lock_of c) (transaction (store_of s ts) (suc i)).locks;
@@ -262,3 +264,7 @@ pub call-answer : (s : State) (ts : List Transaction) (d : Store) (is : store_of
     (a : Answer) → r ≡ reply c s → a ≡ answer_of r → a ≡ (perform d e (call (Some c))).answer
 unfolding perform accept
 call-answer s ts d is e c r a q p = p ∙ ap answer_of (q ∙ ap (λ (d : Store). reply c d.state) is)
+
+pub ruleset standing_rules = (standing_is, number_is)
+
+pub ruleset rolled_rules = (stands, none-store)

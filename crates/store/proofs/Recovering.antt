@@ -1,6 +1,6 @@
 -- So many rollback steps, and recovery transaction by transaction. Assumes nothing.
 use Rattle.std.proofs.Common.{◌≡◌, ℕ, suc, ◌+◌, ◌-◌, ◌<◌, ◌≤◌, List, length, get_or, drop, refl, ◌∙◌, arith, add-one}
-use Rattle.std.proofs.lemmas.List.{drop_more, drop_all}
+use Rattle.std.proofs.lemmas.List.{drop_more}
 use Rattle.boosting.specs.Undo.{Entry}
 use Rattle.boosting.specs.Store.{Store, transaction}
 use Rattle.boosting.specs.Rows.{request, abort, roll_back}
@@ -26,10 +26,4 @@ pub next : (d : Store) (es : List ℕ) (i x : ℕ) → i < length es
 unfolding recover
 next d es i x h = rw (drop_more es i x h) refl
 
-pub no_next : (d : Store) (es : List ℕ) (i : ℕ) → length es ≤ i → recover d (drop i es) ≡ d
-unfolding recover
-no_next d es i h = rw (drop_all i es h) refl
-
 pub ruleset steps_rules = (one_more, no_more)
-
-pub ruleset recovery_rules = (next, no_next)

@@ -46,6 +46,7 @@ fn all_closed() -> [Transaction; 8]
 
 impl Store {
     // The store of the empty script.
+    #[tactic(auto, unfolding(boosting::specs::Store::opened))]
     pub fn new() -> Self
         ensures { result ≡ opened [] }
     {

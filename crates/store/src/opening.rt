@@ -10,6 +10,7 @@ use scripts::read_script;
 
 impl Store {
     // Opens the store of a script text in place of what was there. A refused text opens the empty script.
+    #[tactic(auto, unfolding(boosting::specs::Store::opened))]
     pub fn open(&mut self, text: &[u8]) -> Result<(), RefusedText>
         ensures answer { result ≡ opening (script_of text.now) }
         ensures store { self.new ≡ opened (script_or_empty (script_of text.now)) }

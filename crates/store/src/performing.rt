@@ -15,6 +15,7 @@ use vocabulary::{Call, Standing};
 impl Store {
     // How transaction e stands.
     #[inline(always)]
+    #[tactic(auto, using(crate::proofs::Performed::standing_rules))]
     pub(crate) fn standing(&self, e: TransactionNumber) -> Standing
         ensures value { result ≡ (transaction self.now e).standing }
         ensures in_range { valid e ≡ true }
@@ -41,6 +42,7 @@ impl Store {
     }
 
     // Transaction e only rolls back from here on.
+    #[tactic(auto, using(crate::proofs::Performed::aborts), unfolding(boosting::specs::Step::perform))]
     pub(crate) fn abort(&mut self, e: TransactionNumber) -> Answer
         ensures store { self.new ≡ (perform self.old e abort).store }
         ensures answer { result ≡ (perform self.old e abort).answer }
@@ -50,6 +52,7 @@ impl Store {
     }
 
     // The newest entry of an aborting transaction is taken back: how many are left.
+    #[tactic(auto, using(crate::proofs::Performed::rolled_rules), unfolding(boosting::specs::Step::perform))]
     pub(crate) fn roll_back(&mut self, e: TransactionNumber) -> Answer
         requires { (transaction self.old e).standing ≡ aborting }
         ensures store { self.new ≡ (perform self.old e roll_back).store }

@@ -57,7 +57,7 @@ impl Store {
     }
 
     // Every unclosed transaction is undone and closed.
-    #[tactic(auto, using(crate::proofs::Recovering::recovery_rules))]
+    #[tactic(auto, using(crate::proofs::Recovering::next), unfolding(boosting::specs::Recovery::recover))]
     pub fn recover(&mut self)
         ensures { self.new ≡ recover self.old rising }
     {

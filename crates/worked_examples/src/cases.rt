@@ -7,6 +7,7 @@ use session::run_session;
 use std::io;
 
 // Whether exactly the expected bytes are printed. There is room for the output of every case.
+#[tactic(auto, unfolding(buffers::specs::Written::written_at))]
 pub fn gives(input: &[u8], expected: &[u8]) -> bool
     ensures { result ≡ true → output_of input.now ≡ expected.now }
 {

@@ -1,7 +1,10 @@
 -- Each line fits, so no writer refuses.
-use Rattle.std.proofs.Common.{◌+◌, ap, arith, length, sym, ◌∙◌}
+use Rattle.std.proofs.Common.{ℕ, List, ◌++◌, ◌+◌, ap, arith, length, sym, ◌∙◌}
+use Rattle.std.proofs.lemmas.List.{at_drop_all}
+use mathlib.Core.List.{flatten}
+use Rattle.boosting.specs.Listing.{lock_lines, modes_of}
 use Rattle.buffers.proofs.Rest.{Parts, left_last, left_more, left_refused}
-use Rattle.lock_listing.proofs.Listings.{locks_from, locks_over, locks_parts}
+use Rattle.lock_listing.proofs.Listings.{locks_from, locks_parts}
 use Rattle.lock_listing.proofs.write_locks.Goals as goal
 use Rattle.lock_listing.proofs.write_locks.Goals.{After-write_bytes}
 
@@ -24,7 +27,8 @@ loop-key-preserved c =
     left_more c.loop-key.invariant (parts w) c.write_bytes.ensures c.in_ok-middle.was
 
 pub returns : goal.returns
+unfolding lock_lines
 returns c =
-    let over = locks_over c.args.e c.args.locks.now c.loop-key.key-index
-    (omega (arith, ap length c.cues-key-items.ensures.value)) in
+    let over = at_drop_all (λ (ks : List ℕ). flatten (lock_lines c.args.e ks ++ modes_of c.args.e c.args.locks.now))
+    c.args.locks.now.cues c.loop-key.key-index (omega (arith, ap length c.cues-key-items.ensures.value)) in
     left_last c.loop-key.invariant (over ∙ sym (c.as_bytes-2.ensures ∙ c.mode_lines.ensures.text)) c.write_bytes-2.ensures

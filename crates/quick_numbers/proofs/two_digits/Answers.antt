@@ -1,19 +1,20 @@
 -- `quick_numbers::two_digits` meets its contract. The two branches on the second digit join.
 use Rattle.std.proofs.Common.{arith, drop, ap, ◌∙◌, ◌≡◌, ⊎_elim}
-use Rattle.quick_numbers.proofs.Two.{first_alone, leading_zero, not_first, rest_is, two_digits}
+use Rattle.std.proofs.lemmas.List.{take_rest}
+use Rattle.quick_numbers.proofs.Two.{first_alone, leading_zero, not_first, two_digits}
 use Rattle.quick_numbers.specs.Short.{short_of}
 use Rattle.quick_numbers.proofs.two_digits.Goals as goal
 use Rattle.quick_numbers.proofs.two_digits.Goals.{then-second-le9 as two, else-second-le9 as one}
 
 pub returns-then-first-gt9 : goal.returns-then-first-gt9
 returns-then-first-gt9 c =
-    let rest : c.in_ok-get.field-0.now ≡ drop c.args.at c.args.text.now = c.in_ok-get.ensures.lookup.0.2 ∙ rest_is c.args.text.now c.args.at in
+    let rest : c.in_ok-get.field-0.now ≡ drop c.args.at c.args.text.now = c.in_ok-get.ensures.lookup.0.2 ∙ take_rest c.args.text.now c.args.at in
     not_first _ _ c.in_ok-bytes.ensures.cases _ _ c.digit_of-first.ensures c.digit_of-second.ensures (omega arith) (omega arith)
     ∙ ap (short_of 2 2) rest
 
 pub returns-then-first-eq0 : goal.returns-then-first-eq0
 returns-then-first-eq0 c =
-    let rest : c.in_ok-get.field-0.now ≡ drop c.args.at c.args.text.now = c.in_ok-get.ensures.lookup.0.2 ∙ rest_is c.args.text.now c.args.at in
+    let rest : c.in_ok-get.field-0.now ≡ drop c.args.at c.args.text.now = c.in_ok-get.ensures.lookup.0.2 ∙ take_rest c.args.text.now c.args.at in
     let by_second = c.if-second-le9.branch in
     elim by_second [
       | two w ↦
@@ -25,7 +26,7 @@ returns-then-first-eq0 c =
 
 pub returns : goal.returns
 returns c =
-    let rest : c.in_ok-get.field-0.now ≡ drop c.args.at c.args.text.now = c.in_ok-get.ensures.lookup.0.2 ∙ rest_is c.args.text.now c.args.at in
+    let rest : c.in_ok-get.field-0.now ≡ drop c.args.at c.args.text.now = c.in_ok-get.ensures.lookup.0.2 ∙ take_rest c.args.text.now c.args.at in
     elim c.if-second-le9.branch [
       | two w ↦
           rw (w.value-is, w.digits-is)

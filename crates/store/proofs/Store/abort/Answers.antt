@@ -4,6 +4,3 @@ use Rattle.store.proofs.Store.abort.Goals as goal
 
 pub invariant_of-self : goal.invariant_of-self
 invariant_of-self c = search (laws.aborts-Sound, arith)
-
-pub returns-clause-store : goal.returns-clause-store
-returns-clause-store c = search (laws.aborts, arith)

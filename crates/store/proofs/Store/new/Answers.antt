@@ -4,6 +4,3 @@ use Rattle.store.proofs.Store.new.Goals as goal
 
 pub invariant_of-result : goal.invariant_of-result
 invariant_of-result c = search (laws.new-Sound, arith)
-
-pub returns : goal.returns
-returns c = search (laws.new_is, arith)

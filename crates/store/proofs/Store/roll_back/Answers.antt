@@ -2,14 +2,8 @@ use Rattle.std.proofs.Common.{arith}
 use Rattle.store.proofs.Performed as laws
 use Rattle.store.proofs.Store.roll_back.Goals as goal
 
-pub take_newest-requires : goal.take_newest-requires
-take_newest-requires c = search (laws.stands, arith)
-
 pub invariant_of-self : goal.invariant_of-self
 invariant_of-self c = search (laws.none-Sound, arith)
-
-pub returns-in_default-clause-store : goal.returns-in_default-clause-store
-returns-in_default-clause-store c = search (laws.none-store, arith)
 
 pub returns-in_default-clause-answer : goal.returns-in_default-clause-answer
 returns-in_default-clause-answer c = search (laws.none-answer, arith)
