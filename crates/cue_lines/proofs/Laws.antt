@@ -18,7 +18,7 @@ use Rattle.cue_lines.specs.CueLine.{three_numbers, fields_of}
 abbrev pub numbers_of : ℕ → ℕ → ℕ → Option CueNumbers
 numbers_of t m p = Some (record { time = t; «module» = m; pin = p })
 
-number_nil : number_of [] ≡ None
+pub number_nil : number_of [] ≡ None
 unfolding number_of
 number_nil = refl
 

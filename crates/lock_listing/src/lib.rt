@@ -2,6 +2,8 @@
 //
 // It is written into a lent buffer, whole or not at all. The promise leaves the order of the lines open; the program
 // takes transaction by transaction, each with its cue locks and then its modes. No public function has a `requires`.
+//
+// A transaction does not know its number, so number and locks are two parameters.
 #![tactic(auto)]
 
 ghost use Rattle.std.specs.Prelude.{◌≡◌, ◌++◌, ◌+◌, ◌≤◌, length};

@@ -24,7 +24,8 @@ pub struct Field {
     pub end: usize,
 }
 
-// The digits from a place on: their value and where they end; none if there are more than nine.
+// The digits from a place on: their value and where they end; none if there are more than nine. By their index, which
+// is what is answered.
 fn pass_digits(s: &[u8], at: usize) -> Option<Field>
     ensures { DigitsPassed s.now at result }
 {

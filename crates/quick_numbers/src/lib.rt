@@ -37,7 +37,7 @@ pub struct Short {
     pub digits: usize,
 }
 
-// The digit that a byte is; above 9 where it is none.
+// The digit that a byte is; above 9 where it is none: an `Option` would be asked, and here nothing may branch.
 fn digit_of(byte: u8) -> u64
     ensures { (result + 48) % 2 ^ 64 ≡ byte }
 {

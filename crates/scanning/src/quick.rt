@@ -9,6 +9,7 @@ ghost use Rattle.quick_numbers.specs.Short.{ShortFits};
 ghost use Rattle.scanning.specs.Quick.{RestFits, QuickFits};
 
 use crate::Scanned;
+use buffers::fits;
 use cues::CueNumbers;
 use lines::{COMMA, LF};
 use quick_numbers::{Short, seven_digits, two_digits};
@@ -19,6 +20,8 @@ use steps::Step;
 // A quick look reads no byte past these: the longest plain line has 24 with its LF.
 const REACH: usize = 32;
 
+// Each function here asks that its bytes are there, which `quick_step` has tested once for all of them.
+//
 // The time at a place. This and the next look through a window, so that nothing tests for the text's end again. Each
 // calls another reader: one function over the window and the reader would be no shorter.
 fn time_at(text: &[u8], at: usize) -> Option<Short>
@@ -89,7 +92,7 @@ fn quick_rest(text: &[u8], at: usize, word: Word) -> Option<Scanned>
 pub fn quick_step(words: &WordTable, text: &[u8], at: usize) -> Option<Scanned>
     ensures { QuickFits text.now at result }
 {
-    if text.len() < REACH || text.len() - REACH < at {
+    if !fits(text.len(), at, REACH) {
         return None;
     }
     let found = words.quick_word(text, at)?;

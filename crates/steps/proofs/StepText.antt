@@ -27,7 +27,7 @@ use Rattle.step_words.specs.declared.CueWord.{CueWord}
 use Rattle.steps.specs.declared.reading.Step.TheVariants.{WithNumber, WithCue}
 use Rattle.steps.specs.Step.{numbered, cued}
 use Rattle.steps.specs.StepText.{call_text, NineDigits, NineDigitCall}
-use Rattle.steps.proofs.Steps.{number_nil}
+use Rattle.cue_lines.proofs.Laws.{number_nil}
 
 -- ---- written, then read
 module _ (n : ℕ) (r : List ℕ) where

@@ -16,12 +16,9 @@ use Rattle.step_words.specs.declared.CueWord.{CueWord}
 use Rattle.step_words.specs.declared.Word.{Word}
 use Rattle.step_words.specs.declared.Word.TheVariants.{WithNumber as of_number, WithCue as of_cue}
 use Rattle.step_words.specs.Word.{word_of}
+use Rattle.cue_lines.proofs.Laws.{number_nil}
 use Rattle.steps.specs.declared.reading.Step.TheVariants.{WithCue}
 use Rattle.steps.specs.Step.{cued, step_with, step_of}
-
-pub number_nil : number_of [] ≡ None
-unfolding number_of
-number_nil = refl
 
 fields_nil : fields_of [] ≡ None
 unfolding up_to

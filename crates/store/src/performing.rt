@@ -23,7 +23,7 @@ impl Store {
         self.transactions[e.index()].standing()
     }
 
-    // Transaction e opens.
+    // Transaction e opens. This and the next two differ in one call: one function over a closure would be no shorter.
     pub(crate) fn begin(&mut self, e: TransactionNumber) -> Answer
         ensures store { self.new ≡ (perform self.old e begin).store }
         ensures answer { result ≡ (perform self.old e begin).answer }

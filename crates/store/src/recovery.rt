@@ -14,12 +14,8 @@ impl Store {
     fn abort_open(&mut self, e: TransactionNumber)
         ensures { self.new ≡ (step_on self.old (request e abort)).store }
     {
-        match self.standing(e) {
-            Standing::Closed => {}
-            Standing::Open => {
-                self.abort(e);
-            }
-            Standing::Aborting => {}
+        if let Standing::Open = self.standing(e) {
+            self.abort(e);
         }
     }
 
@@ -28,12 +24,8 @@ impl Store {
     fn step_back(&mut self, e: TransactionNumber)
         ensures { self.new ≡ (step_on self.old (request e roll_back)).store }
     {
-        match self.standing(e) {
-            Standing::Closed => {}
-            Standing::Open => {}
-            Standing::Aborting => {
-                self.roll_back(e);
-            }
+        if let Standing::Aborting = self.standing(e) {
+            self.roll_back(e);
         }
     }
 

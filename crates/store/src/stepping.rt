@@ -94,7 +94,8 @@ impl Store {
         }
     }
 
-    // An accepted request is done.
+    // An accepted request is done. That a call's key is a cue's is asked here and in two more functions: `Call` is the
+    // model's own type, which has no invariant.
     #[inline(always)]
     fn perform(&mut self, e: TransactionNumber, action: Action) -> Answer
         requires accepted { refusal_of self.old (request e action) ≡ None }

@@ -8,12 +8,12 @@ use Rattle.scanning.proofs.quick.quick_step.Goals as goal
 pub overflow_add-at : goal.overflow_add-at
 overflow_add-at c =
     let word = word_stands c.args.text.now c.args.at _ (sym c.quick_word.ensures ∙ c.in_ok-found.was) in
-    omega (arith, word.1, line_few c.in_ok-found.found.word)
+    grind (arith, word.1, line_few c.in_ok-found.found.word)
 
 pub quick_rest-requires : goal.quick_rest-requires
 quick_rest-requires c =
     let word = word_stands c.args.text.now c.args.at _ (sym c.quick_word.ensures ∙ c.in_ok-found.was) in
-    omega (arith, word.1, line_few c.in_ok-found.found.word)
+    grind (arith, word.1, line_few c.in_ok-found.found.word)
 
 pub returns : goal.returns
 returns c =
