@@ -49,17 +49,17 @@ module _ (d : Store) (e : ℕ) (c : Call) (l : Lock) (le : l ≡ lock_of c)
   behind = rw (← le, ← free, is, ← h, ne) refl
 
 -- a row with none behind it that is met
-pub one_row : (b : Bool) (r : Refusal) (rows : List (Option Refusal)) → first_met rows ≡ None
-    → admitted (when b r) ≡ admitted (first_met (when b r ∷ rows))
+pub one_row : {A : Type 0} (a : A) (b : Bool) (r : Refusal) (rows : List (Option Refusal)) → first_met rows ≡ None
+    → admitted (when b r) a ≡ admitted (first_met (when b r ∷ rows)) a
 unfolding first_met
-one_row true r rows h = refl
-one_row false r rows h = rw h refl
+one_row a true r rows h = refl
+one_row a false r rows h = rw h refl
 
 -- what an answer says of the row
-pub admitted-Ok : (o : Option Refusal) → Ok tt ≡ admitted o → o ≡ None
-admitted-Ok None e = refl
-admitted-Ok (Some r) e = cc
+pub admitted-Ok : {A : Type 0} (o : Option Refusal) (a b : A) → Ok a ≡ admitted o b → o ≡ None
+admitted-Ok None a b e = refl
+admitted-Ok (Some r) a b e = cc
 
-pub admitted-Err : (o : Option Refusal) (r : Refusal) → Err r ≡ admitted o → o ≡ Some r
-admitted-Err None r e = cc
-admitted-Err (Some q) r e = cc
+pub admitted-Err : {A : Type 0} (o : Option Refusal) (a : A) (r : Refusal) → Err r ≡ admitted o a → o ≡ Some r
+admitted-Err None a r e = cc
+admitted-Err (Some q) a r e = cc

@@ -1,4 +1,4 @@
--- What the code's answers mean: a refusal, where a row is met; and the rows of room. Assumes nothing.
+-- What the code's answers mean: a refusal, or what goes on where no row is met; and the rows of room. Assumes nothing.
 use Rattle.std.specs.Prelude.{ℕ, List, [], ◌∷◌, Option, None, Some, Result, Ok, Err}
 use Rattle.refusals.specs.declared.Refusal.{Refusal}
 use Rattle.refusals.specs.declared.Refusal.TheVariants.{UndoLogFull, ScriptFull, QueueFull}
@@ -12,10 +12,10 @@ use Rattle.boosting.specs.Rows.{when}
 abbrev pub store_of : State → List Transaction → Store
 store_of s ts = record { state = s; transactions = ts }
 
--- the row that is met, if there is one
-abbrev pub admitted : Option Refusal → Result Unit Refusal
-admitted None = Ok tt
-admitted (Some r) = Err r
+-- what goes on where no row is met; else the row
+abbrev pub admitted : {A : Type 0} → Option Refusal → A → Result A Refusal
+admitted None a = Ok a
+admitted (Some r) a = Err r
 
 -- rows 10 to 12, by the entry that the call notes
 abbrev pub room_rows : Store → ℕ → Option Entry → List (Option Refusal)

@@ -6,6 +6,7 @@
 #![tactic(auto)]
 
 ghost use Rattle.std.specs.Prelude.{◌≡◌};
+ghost use Rattle.boosting.specs.Object.{reply as reply_of};
 ghost use Rattle.boosting.specs.Rows.{when, call_rows, first_met};
 ghost use Rattle.admission.specs.Answers.{admitted, room_rows, store_of};
 
@@ -14,12 +15,12 @@ use refusals::Refusal;
 use shared_object::{SharedObject, entry_of, lock_of};
 use slots::{queue_full, script_full};
 use transactions::{Transaction, TransactionNumber};
-use vocabulary::{Call, Entry};
+use vocabulary::{Call, Entry, Reply};
 
 // The refusal, where its row is met.
 #[inline(always)]
 fn refused_when(met: bool, refusal: Refusal) -> Result<(), Refusal>
-    ensures { result ≡ admitted (when met refusal) }
+    ensures { result ≡ admitted (when met refusal) tt }
 {
     if met {
         return Err(refusal);
@@ -35,7 +36,7 @@ fn try_entry(
     e: TransactionNumber,
     noted: Option<Entry>,
 ) -> Result<(), Refusal>
-    ensures { result ≡ admitted (first_met (room_rows (store_of object.now transactions.now) e noted)) }
+    ensures { result ≡ admitted (first_met (room_rows (store_of object.now transactions.now) e noted)) tt }
 {
     let Some(entry) = noted else {
         return Ok(());
@@ -56,16 +57,16 @@ fn try_entry(
     }
 }
 
-// Rows 8 to 12, those of a call of transaction e. The rows of room ask what the call would be answered, since what it
-// notes depends on that.
+// Rows 8 to 12, those of a call of transaction e: its reply, where none is met.
 #[inline(always)]
 pub fn try_call(
     object: &SharedObject,
     transactions: &[Transaction; 8],
     e: TransactionNumber,
     call: Call,
-) -> Result<(), Refusal>
-    ensures { result ≡ admitted (first_met (call_rows (store_of object.now transactions.now) e call)) }
+) -> Result<Reply, Refusal>
+    ensures { result
+        ≡ admitted (first_met (call_rows (store_of object.now transactions.now) e call)) (reply_of call object.now) }
 {
     let lock = lock_of(call);
     if let Some(holder) = find_blocker(transactions, usize::from(e), lock) {
@@ -74,5 +75,7 @@ pub fn try_call(
     if transactions[e.index()].locks().is_full(lock) {
         return Err(Refusal::LocksFull);
     }
-    try_entry(object, transactions, e, entry_of(call, object.reply(call)))
+    let reply = object.reply(call);
+    try_entry(object, transactions, e, entry_of(call, reply))?;
+    Ok(reply)
 }

@@ -76,11 +76,17 @@ impl HeldLocks {
         }
     }
 
-    // Lets all locks go.
+    // Lets all locks go, where they stand. A new value in place of these writes every blank: tried here and in the undo
+    // log, and the input that mostly waits takes 0.51 of plain Rust's time, where the bar is 0.5.
+    #[tactic(auto, using(crate::proofs::Sieves::sieve_none), unfolding(boosting::specs::Locks::no_locks))]
     pub fn clear(&mut self)
         ensures { self.new ≡ no_locks }
     {
-        *self = Self::new();
+        self.cues.clear();
+        self.pushes = false;
+        self.looks = false;
+        self.takes = false;
+        self.sieve = 0;
     }
 
     // The keys of the cue locks, the oldest first.

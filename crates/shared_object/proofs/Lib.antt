@@ -1,2 +1,2 @@
--- The room that calls need.
+-- Calls that change nothing.
 pub mod Calls

@@ -4,9 +4,9 @@
 // and the capacities are in the type of the collections. What a call locks, notes and answers is here too.
 #![tactic(auto)]
 
-ghost use Rattle.std.specs.Prelude.{◌≡◌, ◌≤◌, if◌then◌else◌, [], length, MatchOption};
+ghost use Rattle.std.specs.Prelude.{◌≡◌, ◌≤◌, [], length};
 ghost use Rattle.tables.specs.Table.{Ordered};
-ghost use Rattle.boosting.specs.Object.{effect, reply as reply_of, is_yes, is_no, is_empty, is_cue, answer_of};
+ghost use Rattle.boosting.specs.Object.{effect, reply as reply_of, answer_of};
 ghost use Rattle.boosting.specs.Undo.{entry_of, inverse};
 ghost use Rattle.boosting.specs.Locks.{lock_of};
 ghost use Rattle.boosting.specs.Store.{started};
@@ -56,25 +56,6 @@ pub fn answer_of(reply: Reply) -> Answer
         Reply::Ok => Answer::Ok,
         Reply::Empty => Answer::Empty,
         Reply::Cue(key) => Answer::Cue(Cue::of_key(key)),
-    }
-}
-
-// The reply of a call on a cue of the script.
-#[inline(always)]
-fn yes_if(holds: bool) -> Reply
-    ensures { result ≡ (if holds then is_yes else is_no) }
-{
-    if holds { Reply::Yes } else { Reply::No }
-}
-
-// The reply of a call on the least cue of the queue.
-#[inline(always)]
-fn cue_or_empty(least: Option<u64>) -> Reply
-    ensures { MatchOption least (result ≡ is_empty) (λ key. result ≡ is_cue key) }
-{
-    match least {
-        Some(key) => Reply::Cue(key),
-        None => Reply::Empty,
     }
 }
 
@@ -134,38 +115,67 @@ impl SharedObject {
         self.queue.as_slice()
     }
 
-    // What a call would be answered.
+    // What a call is answered.
     #[inline(always)]
     #[tactic(auto, unfolding(boosting::specs::Object::reply))]
     pub fn reply(&self, call: Call) -> Reply
         ensures { result ≡ reply_of call self.now }
     {
         match call {
-            Call::Add(key) => yes_if(!self.script.contains(key)),
-            Call::Remove(key) | Call::Has(key) => yes_if(self.script.contains(key)),
+            Call::Add(key) => if self.script.contains(key) {
+                Reply::No
+            } else {
+                Reply::Yes
+            },
+            Call::Remove(key) | Call::Has(key) => if self.script.contains(key) {
+                Reply::Yes
+            } else {
+                Reply::No
+            },
             Call::Push(_) => Reply::Ok,
-            Call::Min | Call::Take => cue_or_empty(self.queue.first()),
+            Call::Min | Call::Take => match self.queue.first() {
+                Some(key) => Reply::Cue(key),
+                None => Reply::Empty,
+            },
         }
     }
 
-    // Does a call and answers it. There has to be room for what it brings in.
-    #[inline(always)]
-    #[tactic(auto, unfolding(boosting::specs::Object::effect, boosting::specs::Object::reply))]
+    // Does a call, and says what it is answered.
     pub fn apply(&mut self, call: Call) -> Reply
-        requires has_room { HasRoom (effect call self.old) }
+        requires { HasRoom (effect call self.old) }
         ensures reply { result ≡ reply_of call self.old }
         ensures state { self.new ≡ effect call self.old }
     {
+        let reply = self.reply(call);
+        self.apply_known(call, reply);
+        reply
+    }
+
+    // Does a call whose reply is known, so that the script is searched once more only where it changes. Tried without it:
+    // the input that mostly waits takes 0.53 of plain Rust's time, and the bar is 0.5.
+    #[inline(always)]
+    #[tactic(auto, using(crate::proofs::Calls::unchanged_rules), unfolding(boosting::specs::Object::effect))]
+    pub fn apply_known(&mut self, call: Call, reply: Reply)
+        requires has_room { HasRoom (effect call self.old) }
+        requires known { reply ≡ reply_of call self.old }
+        ensures { self.new ≡ effect call self.old }
+    {
         match call {
-            Call::Add(key) => yes_if(self.script.insert_once(key)),
-            Call::Remove(key) => yes_if(self.script.remove(key)),
-            Call::Has(key) => yes_if(self.script.contains(key)),
-            Call::Push(key) => {
-                self.queue.insert(key);
-                Reply::Ok
+            Call::Add(key) => {
+                if let Reply::Yes = reply {
+                    self.script.insert(key);
+                }
             }
-            Call::Min => cue_or_empty(self.queue.first()),
-            Call::Take => cue_or_empty(self.queue.remove_first()),
+            Call::Remove(key) => {
+                if let Reply::Yes = reply {
+                    self.script.remove(key);
+                }
+            }
+            Call::Push(key) => self.queue.insert(key),
+            Call::Take => {
+                let _ = self.queue.remove_first();
+            }
+            Call::Has(_) | Call::Min => {}
         }
     }
 

@@ -222,12 +222,12 @@ module _ (s : State) (ts : List Transaction) (v : Sound (store_of s ts)) (d : St
   call-room = room (perform (store_of s ts) e (call (Some c))).store call-Sound
 
   module _ (i : ℕ) (h : i < 8) (p : i + 1 ≡ e) (x : Transaction) (r : Reply) (l : Lock) (n : Option Entry)
-      (known : r ≡ reply c s) (le : l ≡ lock_of c) (ne : n ≡ entry_of c r) where
+      (known : r ≡ reply c d.state) (le : l ≡ lock_of c) (ne : n ≡ entry_of c r) where
     at_place : transaction (store_of s ts) e ≡ get_or ts i x
     at_place = placed s ts i h v x e p
 
     entry_is : n ≡ entry_of c (reply c s)
-    entry_is = ne ∙ ap (entry_of c) known
+    entry_is = ne ∙ ap (entry_of c) (known ∙ ap (λ (d : Store). reply c d.state) (sym is))
 
     pub lock-room : locks_full l (get_or ts i x).locks ≡ false
     lock-room = rw (← at_place, le) (accepted_call _ e c accepts).locks
@@ -260,10 +260,10 @@ module _ (s : State) (ts : List Transaction) (v : Sound (store_of s ts)) (d : St
       pub called-store : store_of s' (set ts i t) ≡ (perform d e (call (Some c))).store
       called-store = called ∙ ap (λ (d : Store). (perform d e (call (Some c))).store) is
 
-pub call-answer : (s : State) (ts : List Transaction) (d : Store) (is : store_of s ts ≡ d) (e : ℕ) (c : Call) (r : Reply)
-    (a : Answer) → r ≡ reply c s → a ≡ answer_of r → a ≡ (perform d e (call (Some c))).answer
+pub call-answer : (d : Store) (e : ℕ) (c : Call) (r : Reply) (a : Answer) → r ≡ reply c d.state → a ≡ answer_of r
+    → a ≡ (perform d e (call (Some c))).answer
 unfolding perform accept
-call-answer s ts d is e c r a q p = p ∙ ap answer_of (q ∙ ap (λ (d : Store). reply c d.state) is)
+call-answer d e c r a q p = p ∙ ap answer_of q
 
 pub ruleset standing_rules = (standing_is, number_is)
 

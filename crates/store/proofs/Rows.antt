@@ -13,7 +13,7 @@ use Rattle.refusals.specs.declared.Refusal.TheVariants.{
 }
 use Rattle.refusals.specs.declared.Refusal.TheVariants.{Malformed as MalformedLine, Aborting as IsAborting}
 use Rattle.steps.specs.declared.reading.Step.{Step}
-use Rattle.boosting.specs.Object.{Call, State}
+use Rattle.boosting.specs.Object.{Call, Reply, State, reply, is_ok}
 use Rattle.boosting.specs.Store.{closed, «open», aborting, Transaction, Store, valid, transaction}
 use Rattle.boosting.specs.Rows.{
   Action,
@@ -34,6 +34,7 @@ use Rattle.boosting.specs.Sound.{ActionKey, RequestKey}
 use Rattle.boosting.proofs.Accepted.{no_call, asks, accepted_valid, accepted_standing, step_refused, step_accepted, step_case, Accepts-abort, Accepts-roll_back}
 use Rattle.boosting.proofs.Sound.{request_key}
 use Rattle.transactions.specs.Number.{numbered}
+use Rattle.store.specs.Answering.{foretold}
 use Rattle.admission.specs.Answers.{admitted, store_of}
 use Rattle.admission.proofs.Rows.{admitted-Ok, admitted-Err}
 
@@ -47,22 +48,31 @@ asked_key q s p = subst RequestKey (sym p) (request_key s)
 
 -- ---- rows 2 to 7
 module _ (d : Store) (q : Request) where
-  pub no_number : valid q.transaction ≡ false → Err TransactionOutOfRange ≡ admitted (refusal_of d (Some q))
+  pub no_number : valid q.transaction ≡ false → Err TransactionOutOfRange ≡ admitted (refusal_of d (Some q)) (foretold q.action d.state)
   unfolding refusal_of first_met
   no_number v = rw v refl
 
+  pub not_numbered : (r : Refusal) → Err r ≡ numbered q.transaction
+      → Err r ≡ admitted (refusal_of d (Some q)) (foretold q.action d.state)
+  not_numbered r p =
+      split (valid q.transaction) (λ v. let z : ◌≡◌ {A = Result ℕ Refusal} (Err r) (Ok q.transaction) = rw v at p in cc)
+      (λ v.
+      let z : ◌≡◌ {A = Result ℕ Refusal} (Err r) (Err TransactionOutOfRange) = rw v at p in
+      let e : r ≡ TransactionOutOfRange = cc in
+      rw e (no_number v))
+
   module _ (v : valid q.transaction ≡ true) where
     module _ (s : closed ≡ (transaction d q.transaction).standing) where
-      pub begins : q.action ≡ begin → Ok tt ≡ admitted (refusal_of d (Some q))
+      pub begins : q.action ≡ begin → Ok is_ok ≡ admitted (refusal_of d (Some q)) (foretold q.action d.state)
       unfolding refusal_of first_met
       begins a = rw (a, v, ← s) refl
 
-      pub not_begun : (q.action ≡ begin → ⊥) → Err NotBegun ≡ admitted (refusal_of d (Some q))
+      pub not_begun : (q.action ≡ begin → ⊥) → Err NotBegun ≡ admitted (refusal_of d (Some q)) (foretold q.action d.state)
       unfolding refusal_of first_met
       not_begun n = go q.action n
         where
           go : (a : Action) → (a ≡ begin → ⊥)
-              → Err NotBegun ≡ admitted (refusal_of d (Some (record { transaction = q.transaction; action = a })))
+              → Err NotBegun ≡ admitted (refusal_of d (Some (record { transaction = q.transaction; action = a }))) (foretold a d.state)
           go begin n = absurd (n refl)
           go commit n = rw (v, ← s) refl
           go abort n = rw (v, ← s) refl
@@ -70,20 +80,20 @@ module _ (d : Store) (q : Request) where
           go (call c) n = rw (v, ← s) refl
 
     module _ (s : aborting ≡ (transaction d q.transaction).standing) where
-      pub aborting_begun : q.action ≡ begin → Err AlreadyBegun ≡ admitted (refusal_of d (Some q))
+      pub aborting_begun : q.action ≡ begin → Err AlreadyBegun ≡ admitted (refusal_of d (Some q)) (foretold q.action d.state)
       unfolding refusal_of first_met
       aborting_begun a = rw (a, v, ← s) refl
 
-      pub rolls_back : q.action ≡ roll_back → Ok tt ≡ admitted (refusal_of d (Some q))
+      pub rolls_back : q.action ≡ roll_back → Ok is_ok ≡ admitted (refusal_of d (Some q)) (foretold q.action d.state)
       unfolding refusal_of first_met
       rolls_back a = rw (a, v, ← s) refl
 
-      pub goes_back : (q.action ≡ begin → ⊥) → (q.action ≡ roll_back → ⊥) → Err IsAborting ≡ admitted (refusal_of d (Some q))
+      pub goes_back : (q.action ≡ begin → ⊥) → (q.action ≡ roll_back → ⊥) → Err IsAborting ≡ admitted (refusal_of d (Some q)) (foretold q.action d.state)
       unfolding refusal_of first_met
       goes_back m n = go q.action m n
         where
           go : (a : Action) → (a ≡ begin → ⊥) → (a ≡ roll_back → ⊥)
-              → Err IsAborting ≡ admitted (refusal_of d (Some (record { transaction = q.transaction; action = a })))
+              → Err IsAborting ≡ admitted (refusal_of d (Some (record { transaction = q.transaction; action = a }))) (foretold a d.state)
           go begin m n = absurd (m refl)
           go commit m n = rw (v, ← s) refl
           go abort m n = rw (v, ← s) refl
@@ -91,23 +101,23 @@ module _ (d : Store) (q : Request) where
           go (call c) m n = rw (v, ← s) refl
 
     module _ (s : «open» ≡ (transaction d q.transaction).standing) where
-      pub open_begun : q.action ≡ begin → Err AlreadyBegun ≡ admitted (refusal_of d (Some q))
+      pub open_begun : q.action ≡ begin → Err AlreadyBegun ≡ admitted (refusal_of d (Some q)) (foretold q.action d.state)
       unfolding refusal_of first_met
       open_begun a = rw (a, v, ← s) refl
 
-      pub not_aborting : q.action ≡ roll_back → Err NotAborting ≡ admitted (refusal_of d (Some q))
+      pub not_aborting : q.action ≡ roll_back → Err NotAborting ≡ admitted (refusal_of d (Some q)) (foretold q.action d.state)
       unfolding refusal_of first_met
       not_aborting a = rw (a, v, ← s) refl
 
-      pub out_of_range : q.action ≡ call None → Err CueOutOfRange ≡ admitted (refusal_of d (Some q))
+      pub out_of_range : q.action ≡ call None → Err CueOutOfRange ≡ admitted (refusal_of d (Some q)) (foretold q.action d.state)
       unfolding refusal_of first_met
       out_of_range a = rw (a, v, ← s) refl
 
-      pub commits : q.action ≡ commit → Ok tt ≡ admitted (refusal_of d (Some q))
+      pub commits : q.action ≡ commit → Ok is_ok ≡ admitted (refusal_of d (Some q)) (foretold q.action d.state)
       unfolding refusal_of first_met
       commits a = rw (a, v, ← s) refl
 
-      pub aborts : q.action ≡ abort → Ok tt ≡ admitted (refusal_of d (Some q))
+      pub aborts : q.action ≡ abort → Ok is_ok ≡ admitted (refusal_of d (Some q)) (foretold q.action d.state)
       unfolding refusal_of first_met
       aborts a = rw (a, v, ← s) refl
 
@@ -126,9 +136,9 @@ module _ (s : State) (ts : List Transaction) (d : Store) (is : store_of s ts ≡
       let m = numbered_is e q.transaction n in
       rw (a, m.1, ← m.0, ← o) (ap (λ (d : Store). first_met (call_rows d e c)) (sym is))
 
-  pub call_decides : (r : Result (Unit {0}) Refusal) → r ≡ admitted (first_met (call_rows (store_of s ts) e c))
-      → r ≡ admitted (refusal_of d (Some q))
-  call_decides r p = p ∙ ap admitted (sym rows_are)
+  pub call_decides : (r : Result Reply Refusal) → r ≡ admitted (first_met (call_rows (store_of s ts) e c)) (reply c s)
+      → r ≡ admitted (refusal_of d (Some q)) (foretold q.action d.state)
+  call_decides r p = p ∙ rw (rows_are, a) (ap (λ (d : Store). admitted (first_met (call_rows (store_of s ts) e c)) (reply c d.state)) is)
 
 pub ruleset row_rules = (
   no_number,
@@ -147,15 +157,19 @@ pub ruleset row_rules = (
 
 -- ---- a request that is turned away changes nothing; one that is admitted is performed
 module _ (d : Store) (q : Request) where
-  pub turned_away : (r : Refusal) → Err r ≡ admitted (refusal_of d (Some q)) → step_on d (Some q) ≡ refuse d r
-  turned_away r p = step_refused d (Some q) r (admitted-Err _ r p)
+  pub turned_away : (r : Refusal) → Err r ≡ admitted (refusal_of d (Some q)) (foretold q.action d.state)
+      → step_on d (Some q) ≡ refuse d r
+  turned_away r p = step_refused d (Some q) r (admitted-Err _ _ r p)
 
-  module _ (p : Ok tt ≡ admitted (refusal_of d (Some q))) where
+  module _ (r : Reply) (p : Ok r ≡ admitted (refusal_of d (Some q)) (foretold q.action d.state)) where
     none_met : refusal_of d (Some q) ≡ None
-    none_met = admitted-Ok _ p
+    none_met = admitted-Ok _ _ _ p
 
     pub has_number : valid q.transaction ≡ true
     has_number = accepted_valid d q.transaction q.action none_met
+
+    pub foretells : r ≡ foretold q.action d.state
+    foretells = let z : ◌≡◌ {A = Result Reply Refusal} (Ok r) (Ok (foretold q.action d.state)) = rw none_met at p in cc
 
     pub admits : (e : ℕ) → e ≡ q.transaction → refusal_of d (request e q.action) ≡ None
     admits e n = rw n none_met
@@ -168,7 +182,7 @@ pub no_cue : {A : Type 0} (d : Store) (e : ℕ) (a : Action) (c : Option Call) �
     → a ≡ call c → c ≡ None → A
 no_cue d e a c m p q = no_call d e (rw (p, q) at m)
 
-pub ruleset request_rules = (turned_away, has_number, admits, performed)
+pub ruleset request_rules = (turned_away, has_number, foretells, admits, performed)
 
 -- ---- recovery's requests: one that its transaction's standing does not ask for changes nothing
 pub not_asked : (d : Store) (e : ℕ) (a : Action) → ((transaction d e).standing ≡ asks a → ⊥)

@@ -1,5 +1,6 @@
 // What an accepted step does to the store, where it stands, and what it is answered; and how a transaction stands.
 ghost use Rattle.std.specs.Prelude.{◌≡◌, true, Some, None};
+ghost use Rattle.boosting.specs.Object.{reply as reply_of};
 ghost use Rattle.boosting.specs.Store.{transaction, valid, aborting};
 ghost use Rattle.boosting.specs.Rows.{begin, commit, abort, roll_back, call as on_object, refusal_of, request};
 ghost use Rattle.boosting.specs.Sound.{CallKey};
@@ -9,7 +10,7 @@ use crate::Store;
 use answers::Answer;
 use shared_object::{answer_of, entry_of, lock_of};
 use transactions::TransactionNumber;
-use vocabulary::{Call, Standing};
+use vocabulary::{Call, Reply, Standing};
 
 #[tactic(auto, unfolding(boosting::specs::Step::perform))]
 impl Store {
@@ -65,15 +66,16 @@ impl Store {
         Answer::Left(self.transactions[e.index()].log().len())
     }
 
-    // An accepted call: the plain operation is run, its lock held and its entry noted.
+    // An accepted call with its reply: the plain operation is run, its lock held and its entry noted.
     #[inline(always)]
-    pub(crate) fn accept(&mut self, e: TransactionNumber, call: Call) -> Answer
+    pub(crate) fn accept(&mut self, e: TransactionNumber, call: Call, reply: Reply) -> Answer
         requires accepted { refusal_of self.old (request e (on_object (Some call))) ≡ None }
         requires is_key { CallKey call }
+        requires known { reply ≡ reply_of call self.old.state }
         ensures store { self.new ≡ (perform self.old e (on_object (Some call))).store }
         ensures answer { result ≡ (perform self.old e (on_object (Some call))).answer }
     {
-        let reply = self.object.apply(call);
+        self.object.apply_known(call, reply);
         self.transactions[e.index()].accept(lock_of(call), entry_of(call, reply));
         answer_of(reply)
     }

@@ -5,7 +5,7 @@ ghost use Rattle.boosting.specs.Rows.{number_action, cue_call, on_cue_of, refusa
 ghost use Rattle.boosting.specs.Sound.{ActionKey, RequestKey};
 ghost use Rattle.boosting.specs.Step.{perform, step_on, step_line};
 ghost use Rattle.admission.specs.Answers.{admitted};
-ghost use Rattle.store.specs.Answering.{answered};
+ghost use Rattle.store.specs.Answering.{answered, foretold};
 
 use crate::Store;
 use admission::try_call;
@@ -15,7 +15,7 @@ use refusals::Refusal;
 use step_words::{CueWord, NumberWord};
 use steps::{Step, read_step};
 use transactions::TransactionNumber;
-use vocabulary::{Action, Call, Request, Standing};
+use vocabulary::{Action, Call, Reply, Request, Standing};
 
 // What a word asks for that has only the transaction's number behind it. No `From`, here and below: the types are of
 // other crates.
@@ -71,35 +71,36 @@ fn request_of(step: Step) -> Request
 }
 
 impl Store {
-    // Whether the store would accept a request as it stands; else the first row of the table that turns the request
-    // away. Nothing is changed. The rows 2 to 7 stand here.
+    // Whether the store would accept a request as it stands: what the object would answer its call, and `Ok` where it is
+    // none; or the first row of the table that turns the request away. Nothing is changed. The rows 2 to 7 stand here.
     #[inline(always)]
     #[tactic(auto, using(crate::proofs::Rows::row_rules))]
-    pub fn admit(&self, request: Request) -> Result<(), Refusal>
-        ensures { result ≡ admitted (refusal_of self.now (Some request)) }
+    pub fn admit(&self, request: Request) -> Result<Reply, Refusal>
+        ensures { result ≡ admitted (refusal_of self.now (Some request)) (foretold request.action self.now.state) }
     {
         let e = TransactionNumber::try_from(request.transaction)?;
         match (self.standing(e), request.action) {
-            (Standing::Closed, Action::Begin) => Ok(()),
+            (Standing::Closed, Action::Begin) => Ok(Reply::Ok),
             (_, Action::Begin) => Err(Refusal::AlreadyBegun),
             (Standing::Closed, _) => Err(Refusal::NotBegun),
-            (Standing::Aborting, Action::RollBack) => Ok(()),
+            (Standing::Aborting, Action::RollBack) => Ok(Reply::Ok),
             (Standing::Aborting, _) => Err(Refusal::Aborting),
             (Standing::Open, Action::RollBack) => Err(Refusal::NotAborting),
             (Standing::Open, Action::OnObject(None)) => Err(Refusal::CueOutOfRange),
             (Standing::Open, Action::OnObject(Some(call))) => {
                 try_call(&self.object, &self.transactions, e, call)
             }
-            (Standing::Open, Action::Commit | Action::Abort) => Ok(()),
+            (Standing::Open, Action::Commit | Action::Abort) => Ok(Reply::Ok),
         }
     }
 
-    // An accepted request is done. That a call's key is a cue's is asked here and in two more functions: `Call` is the
-    // model's own type, which has no invariant.
+    // An accepted request is done, whose reply is known. That a call's key is a cue's is asked here and in two more
+    // functions: `Call` is the model's own type, which has no invariant.
     #[inline(always)]
-    fn perform(&mut self, e: TransactionNumber, action: Action) -> Answer
+    fn perform(&mut self, e: TransactionNumber, action: Action, reply: Reply) -> Answer
         requires accepted { refusal_of self.old (request e action) ≡ None }
         requires is_key { ActionKey action }
+        requires known { reply ≡ foretold action self.old.state }
         ensures store { self.new ≡ (perform self.old e action).store }
         ensures answer { result ≡ (perform self.old e action).answer }
     {
@@ -108,7 +109,7 @@ impl Store {
             Action::Commit => self.commit(e),
             Action::Abort => self.abort(e),
             Action::RollBack => self.roll_back(e),
-            Action::OnObject(Some(call)) => self.accept(e, call),
+            Action::OnObject(Some(call)) => self.accept(e, call, reply),
             // Row 7 has turned it away.
             Action::OnObject(None) => Answer::Refused(Refusal::CueOutOfRange),
         }
@@ -122,9 +123,9 @@ impl Store {
         ensures store { self.new ≡ (step_on self.old (Some request)).store }
         ensures answer { answered result ≡ (step_on self.old (Some request)).answer }
     {
-        self.admit(request)?;
+        let reply = self.admit(request)?;
         let e = TransactionNumber::try_from(request.transaction)?;
-        Ok(self.perform(e, request.action))
+        Ok(self.perform(e, request.action, reply))
     }
 
     // One step that has been read, or none where a line is no step: refused with nothing changed, or accepted and done.

@@ -1,7 +1,7 @@
 // At most 16 entries in fixed memory: the last that was put in comes out first.
 //
-// It is an array with a count and not the kit's `ArrayVec`, which wants a default of what it holds. No entry is one,
-// and no derive makes one, since each kind has a key. The blanks here are entries too, but nobody sees them.
+// It is an array with a count and not the kit's `ArrayVec`, which asks for a default entry, and no entry stands for
+// nothing; and it is cleared by its count alone, which each begin and each close of a transaction does.
 ghost use Rattle.std.specs.Prelude.{◌≡◌, ◌<◌, ◌≤◌, [], ◌∷◌, ◌++◌, length, MatchOption};
 
 use std::marker::Model;
@@ -33,6 +33,14 @@ impl Entries {
             items: [Entry::Added(0); 16],
             count: 0,
         }
+    }
+
+    // Takes all entries out.
+    #[inline(always)]
+    pub fn clear(&mut self)
+        ensures { self.new ≡ [] }
+    {
+        self.count = 0;
     }
 
     pub fn as_slice(&self) -> &[Entry]

@@ -43,11 +43,12 @@ impl UndoLog {
         }
     }
 
-    // Takes all entries out.
+    // Takes all entries out, where they stand; why is said at `HeldLocks::clear`.
     pub fn clear(&mut self)
         ensures { self.new ≡ [] }
     {
-        *self = Self::new();
+        self.entries.clear();
+        self.takes = 0;
     }
 
     // How many entries there are.

@@ -28,7 +28,7 @@ returns-in-Added c =
     let room = lt-leb 16 (length c.log.result.now) (omega arith) in
     c.refused_when.ensures
     ∙ rw (c.in-Some.is, c.in-Added.is, log (goal.at.returns-in-Added c).After-len, room, ← c.script_full.ensures)
-    (laws.one_row _ _ _ refl)
+    (laws.one_row _ _ _ _ refl)
 
 pub returns-in-Pushed : goal.returns-in-Pushed
 unfolding first_met
@@ -36,7 +36,7 @@ returns-in-Pushed c =
     let room = lt-leb 16 (length c.log.result.now) (omega arith) in
     c.refused_when-in-Pushed.ensures
     ∙ rw (c.in-Some.is, c.in-Pushed.is, log (goal.at.returns-in-Pushed c).After-len, room, ← c.queue.ensures.value, ← c.queue_full.ensures)
-    (laws.one_row _ _ _ refl)
+    (laws.one_row _ _ _ _ refl)
 
 pub returns-in-Removed : goal.returns-in-Removed
 unfolding first_met

@@ -2,8 +2,8 @@ use Rattle.std.proofs.Common.{arith}
 use Rattle.store.proofs.Performed as laws
 use Rattle.store.proofs.Store.accept.Goals as goal
 
-pub apply-reply-requires : goal.apply-reply-requires
-apply-reply-requires c = search (laws.call-room, arith)
+pub apply_known-requires-clause-has_room : goal.apply_known-requires-clause-has_room
+apply_known-requires-clause-has_room c = search (laws.call-room, arith)
 
 pub accept-requires-clause-lock_room : goal.accept-requires-clause-lock_room
 accept-requires-clause-lock_room c = search (laws.lock-room, arith)
