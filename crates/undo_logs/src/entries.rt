@@ -1,7 +1,7 @@
 // At most 16 entries in fixed memory: the last that was put in comes out first.
 //
-// It is an array with a count and not the kit's `ArrayVec`, which asks for a default entry, and no entry stands for
-// nothing; and it is cleared by its count alone, which each begin and each close of a transaction does.
+// It is an array with a count and not the kit's `ArrayVec`, which wants a default of what it holds: no entry is one, and
+// no derive makes one, since each kind has a key. It is cleared by its count alone, at each begin and each close.
 ghost use Rattle.std.specs.Prelude.{◌≡◌, ◌<◌, ◌≤◌, [], ◌∷◌, ◌++◌, length, MatchOption};
 
 use std::marker::Model;
