@@ -2,7 +2,9 @@
 //
 // The search for a lock in the way (`conflicts`) comes first, and the count of slots (`slots`) last, as the rows do. A
 // function leaves at the first row that is met. Nothing is changed. The rows before these are in the store's own match.
-// Object and transactions are two parameters: they are the two fields of the store, which stands above.
+//
+// Object and transactions are two parameters: they are the two fields of the store, which stands above. So are the
+// transactions and a number: a type around the array, to index it by the number, would be no plainer than `e.index()`.
 #![tactic(auto)]
 
 ghost use Rattle.std.specs.Prelude.{◌≡◌};

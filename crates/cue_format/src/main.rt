@@ -2,7 +2,8 @@
 // `refused,n,line` that says which row the text meets and where.
 //
 // One byte more than a script text may have is read, so that a longer input is told apart. The report
-// never needs more than 3,584 bytes.
+// never needs more than 3,584 bytes. `cue_desk` is alike: what they share are the library's
+// reader and writer, and a common function would be no shorter.
 #![tactic(auto)]
 
 use formatting::write_report;

@@ -40,7 +40,8 @@ pub fn cue_line(cue: Cue) -> LineBuffer
     line
 }
 
-// Writes the line of a cue, with its LF, at a place of the buffer, if it fits there.
+// Writes the line of a cue, with its LF, at a place of the buffer, if it fits there. Each kind of line has such a
+// writer, one call long: a common one would be no shorter.
 pub fn write_cue(buf: &mut [u8], at: usize, cue: Cue) -> Result<usize, Refusal>
     ensures { (result, buf.new) ≡ written_at buf.old at (cue_text cue) }
 {
