@@ -23,9 +23,6 @@ valid_range e h = grind arith
 pub range_valid : (e : ℕ) → 1 ≤ e → e ≤ 8 → valid e ≡ true
 range_valid e h k = grind arith
 
-pub open_unclosed : (s : Standing) → s ≡ «open» → s ≡ closed → ⊥
-open_unclosed s p q = cc
-
 -- ---- one state and one transaction put
 
 pub put_same : (d : Store) (s : State) (e : ℕ) (t : Transaction) → length d.transactions ≡ 8 → valid e ≡ true

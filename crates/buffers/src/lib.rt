@@ -6,7 +6,7 @@
 // No public function has a `requires`.
 //
 // Buffer and place are two parameters and no struct: a writer answers the place behind its bytes, which its caller
-// hands on, and a struct that lends the buffer would be taken apart for that at each of them.
+// hands on. Callers name any place, so a cursor would be made of both at each entry and taken apart behind it.
 #![tactic(auto)]
 
 ghost use Rattle.std.specs.Prelude.{◌≡◌, ◌+◌, ◌++◌, nat_le, length};

@@ -17,6 +17,7 @@ fn seek_line(text: &[u8], k: usize) -> Result<Line, usize>
     ensures is_the_line { result ≡ seek 0 (lines_of text.now) k }
     ensures within { Within text.now result }
 {
+    // Counted down by hand: what is left to count is the answer where the lines end.
     let mut left = k;
     for line in LineReader::new(text).places() {
         if left == 0 {

@@ -4,7 +4,7 @@
 // writes of a number below 1,000,000,000 is read as that number, and what is read is that number's one form. No public
 // function has a `requires`.
 //
-// Text and place are two parameters: a rule of the project wants the reader as a function on slice and number.
+// Text and place are two parameters: a reader answers a place, and a value of both would be made anew for each call.
 #![tactic(auto)]
 
 ghost use Rattle.std.specs.Prelude.{◌≡◌, length, MatchOption};

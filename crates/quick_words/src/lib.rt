@@ -7,7 +7,7 @@
 //
 // It stands beside `step_words` for speed: before the desk had its quick parts, the input that mostly waits took as
 // long as the plain desk, and this one was worth a seventh there (docs/BENCHMARKS.md, "The desk"). Text and place are
-// two parameters: the quick path makes no value of text and place, for speed.
+// two parameters: a value of both would be made anew for each call.
 #![tactic(auto)]
 
 ghost use Rattle.std.specs.Prelude.{◌≡◌, drop};

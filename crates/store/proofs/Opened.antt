@@ -27,9 +27,6 @@ pub accepted_keys : (r : Result (List ℕ) RefusedText) (keys script : List ℕ)
     → keys ≡ script_or_empty r
 accepted_keys r keys script p q = p ∙ ap script_or_empty q
 
-pub refused_keys : (r : Result (List ℕ) RefusedText) (why : RefusedText) → Err why ≡ r → [] ≡ script_or_empty r
-refused_keys r why q = ap script_or_empty q
-
 -- the store of a text, whose script these keys are
 module _ (s : State) (ts : List Transaction) (keys text : List ℕ) (q : s ≡ started keys)
     (r : ts ≡ replicate 8 closed_transaction) (is : keys ≡ script_or_empty (script_of text)) where

@@ -1,6 +1,7 @@
 // Lines of a word and one number, and the line of the word `cue` and a cue, written.
 //
-// A line is written whole, with its LF, or not at all. No public function has a `requires`.
+// A line is written whole, with its LF, or not at all, by one call each, which a common writer would not shorten. No
+// public function has a `requires`.
 #![tactic(auto)]
 
 ghost use Rattle.std.specs.Prelude.{◌≡◌, ◌++◌};

@@ -19,6 +19,7 @@ pub fn gives(input: &[u8], expected: &[u8]) -> bool
     &output[..end] == expected
 }
 
+// In three parts, since names may be any bytes, which `println!` does not take.
 fn write_line<R: Print>(rt: &R, word: &[u8], name: &[u8]) -> io::Result<()> {
     rt.write_all(word)?;
     rt.write_all(name)?;

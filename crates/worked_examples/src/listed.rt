@@ -50,6 +50,7 @@ pub fn check_cases<R: Print>(rt: &R, text: &[u8]) -> Tally
 {
     let mut met = 0;
     let mut right = 0;
+    // Two counts in one pass, so that no case is run twice.
     for case in Cases::new(text) {
         right += u64::from(check_case(rt, case));
         met += 1;
