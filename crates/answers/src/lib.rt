@@ -67,7 +67,8 @@ pub fn answer_line(answer: Answer) -> LineBuffer
     line
 }
 
-// Writes the line of an answer, with its LF, at a place of the buffer, if it fits there: one call, as each line's writer.
+// Writes the line of an answer, with its LF, at a place of the buffer, if it fits there: one call, as each line's
+// writer.
 pub fn write_answer(buf: &mut [u8], at: usize, answer: Answer) -> Result<usize, Refusal>
     ensures { (result, buf.new) ≡ written_at buf.old at (answer_text answer) }
 {

@@ -4,9 +4,9 @@
 // Most lines have a plain form, which `quick` reads in one pass, without looking for their end first. Any other line is
 // found first and then read. Any text and any place will do; a caller makes the table of words once.
 //
-// It stands beside `steps`, which reads a line whose end is known: to look for that first took the input that mostly waits
-// as long as the plain desk (docs/BENCHMARKS.md, "The desk"). Text and place are two parameters: a scan answers a place,
-// and a value of both would be made anew for each call.
+// It stands beside `steps`, which reads a line whose end is known: to look for that first took the input that mostly
+// waits as long as the plain desk (docs/BENCHMARKS.md, "The desk"). Text and place are two parameters: a scan answers a
+// place, and a value of both would be made anew for each call.
 #![tactic(auto)]
 
 mod quick;

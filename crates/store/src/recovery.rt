@@ -9,8 +9,8 @@ use transactions::TransactionNumber;
 use vocabulary::Standing;
 
 impl Store {
-    // An open transaction is aborting from now on; any other refuses, and nothing changes. This and `step_back` differ in
-    // the standing and in the call: one function over both would be no shorter.
+    // An open transaction is aborting from now on; any other refuses, and nothing changes. This and `step_back` differ
+    // in the standing and in the call: one function over both would be no shorter.
     #[tactic(auto, using(crate::proofs::Rows::standing_rules))]
     fn abort_open(&mut self, e: TransactionNumber)
         ensures { self.new ≡ (step_on self.old (request e abort)).store }

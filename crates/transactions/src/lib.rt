@@ -19,8 +19,8 @@ use std::marker::Model;
 use undo_logs::UndoLog;
 use vocabulary::{Entry, Lock, Standing};
 
-// A closed one has no lock and no entry. An enum with both in its arms would be taken apart wherever one of the three is
-// asked, and its closed arm would have to make them for those who ask.
+// A closed one has no lock and no entry. An enum with both in its arms would be taken apart wherever one of the three
+// is asked, and its closed arm would have to make them for those who ask.
 #[derive(Drop)]
 pub struct Transaction {
     standing: Standing,
