@@ -18,8 +18,8 @@ pub fn find_blocker(transactions: &[Transaction; 8], e: usize, lock: Lock) -> Op
     ensures first { result ≡ blocker e lock 1 transactions.now }
     ensures in_range { IfSome result (λ f. f ≤ 8) }
 {
-    // A rule of the project fixes this form: nested loops, left by a labelled break with the one in the way. The place of
-    // e is by `wrapping_sub`: for 0 it is none of the eight, and `i + 1 != e` costs the input that mostly waits 5 %.
+    // A rule of the project fixes this form: nested loops, left by a labelled break with the one in the way. The place
+    // of e is by `wrapping_sub`: for 0 it is none of the eight, and `i + 1 != e` costs the input that mostly waits 5 %.
     let blocker = 'search: {
         for (i, transaction) in transactions.iter().enumerate() {
             if i != e.wrapping_sub(1) {

@@ -1,5 +1,5 @@
--- The sieve of the cue locks: it is that of its keys, and with a key more that of one key more; a key that does not pass
--- it is not held. Assumes nothing.
+-- The sieve of the cue locks: it is that of its keys, and with a key more that of one key more; a key that does not
+-- pass it is not held. Assumes nothing.
 use Rattle.std.proofs.Common.{◌≡◌, ℕ, ◌*◌, ◌/◌, ◌%◌, ◌^◌, max, false, List, [], ◌∷◌, ◌++◌, refl, ap, ◌∙◌, sym, arith}
 use Rattle.std.proofs.Common.{bit_or}
 use Rattle.std.specs.Int.{bit_at, w64}

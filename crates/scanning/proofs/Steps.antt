@@ -1,4 +1,5 @@
--- The steps of the lines from a place of a text on: the one that is scanned there, and those behind it. Assumes nothing.
+-- The steps of the lines from a place of a text on: the one that is scanned there, and those behind it. Assumes
+-- nothing.
 use Prim.Native.Nat.{ℕ, ◌+◌, ◌-◌, ◌≤◌, ◌<◌}
 use mathlib.Core.Path.{◌≡◌, refl, ap, ◌∙◌}
 use mathlib.Core.List.{List, [], ◌∷◌, map}

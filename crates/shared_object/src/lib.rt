@@ -151,8 +151,8 @@ impl SharedObject {
         reply
     }
 
-    // Does a call whose reply is known, so that the script is searched once more only where it changes. Tried without it:
-    // the input that mostly waits takes 0.53 of plain Rust's time, and the bar is 0.5.
+    // Does a call whose reply is known, so that the script is searched once more only where it changes. Tried without
+    // it: the input that mostly waits takes 0.53 of plain Rust's time, and the bar is 0.5.
     #[inline(always)]
     #[tactic(auto, using(crate::proofs::Calls::unchanged_rules), unfolding(boosting::specs::Object::effect))]
     pub fn apply_known(&mut self, call: Call, reply: Reply)

@@ -71,8 +71,9 @@ fn request_of(step: Step) -> Request
 }
 
 impl Store {
-    // Whether the store would accept a request as it stands: what the object would answer its call, and `Ok` where it is
-    // none; or the first row of the table that turns the request away. Nothing is changed. The rows 2 to 7 stand here.
+    // Whether the store would accept a request as it stands: what the object would answer its call, and `Ok` where it
+    // is none; or the first row of the table that turns the request away. Nothing is changed. The rows 2 to 7 stand
+    // here.
     #[inline(always)]
     #[tactic(auto, using(crate::proofs::Rows::row_rules))]
     pub fn admit(&self, request: Request) -> Result<Reply, Refusal>
