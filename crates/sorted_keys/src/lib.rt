@@ -15,6 +15,7 @@ mod search;
 mod words;
 
 pub use search::{rank, stands_at};
+use search::find;
 use std::marker::Model;
 pub use words::Words;
 
@@ -57,8 +58,7 @@ impl<const N: usize> SortedKeys<N> {
     pub fn contains(&self, key: u64) -> bool
         ensures { result ≡ member_of key self.now }
     {
-        let keys = self.keys.as_slice();
-        stands_at(keys, rank(keys, key), key)
+        find(self.keys.as_slice(), key).is_ok()
     }
 
     // Takes all keys out.
@@ -93,12 +93,13 @@ impl<const N: usize> SortedKeys<N> {
         ensures is_new { result ≡ not (member_of key self.old) }
         ensures with_it { self.new ≡ put_once_of key self.old }
     {
-        let at = rank(self.keys.as_slice(), key);
-        let is_new = !stands_at(self.keys.as_slice(), at, key);
-        if is_new {
-            self.keys.insert(at, key);
+        match find(self.keys.as_slice(), key) {
+            Ok(_) => false,
+            Err(at) => {
+                self.keys.insert(at, key);
+                true
+            }
         }
-        is_new
     }
 
     // Takes out one key that equals `key`, and says whether there was one.
@@ -106,12 +107,13 @@ impl<const N: usize> SortedKeys<N> {
         ensures was_there { result ≡ member_of key self.old }
         ensures without { self.new ≡ delete_of key self.old }
     {
-        let at = rank(self.keys.as_slice(), key);
-        let was_there = stands_at(self.keys.as_slice(), at, key);
-        if was_there {
-            self.keys.remove(at);
+        match find(self.keys.as_slice(), key) {
+            Ok(at) => {
+                self.keys.remove(at);
+                true
+            }
+            Err(_) => false,
         }
-        was_there
     }
 
     // The least key, if there is one.
