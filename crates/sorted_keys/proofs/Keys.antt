@@ -4,7 +4,6 @@ use Rattle.std.specs.List.{insert, remove}
 use Rattle.std.specs.Prelude.{Ok, Err}
 use Rattle.tables.specs.Table.{From, Ordered, rank_of, member_of, insert_of, delete_of, put_once_of}
 use Rattle.tables.proofs.Laws as tables
-use Rattle.tables.proofs.Laws.{split}
 use Rattle.sorted_keys.specs.Found.{found_of}
 use Rattle.sorted_keys.specs.Least.{others_of}
 use Rattle.sorted_keys.proofs.Ranks.{rank_le, member_rank}
@@ -47,7 +46,7 @@ once-new k l h = rw h
 -- where a new key finds room there is a place for it, and room for one more
 pub once-room : (k i N : ℕ) (l : List ℕ) → Err i ≡ found_of k l → length (put_once_of k l) ≤ N → (i ≤ length l) × (length l < N)
 once-room k i N l e room =
-    split (member_of k l)
+    tables.split (member_of k l)
     (λ h.
     let there : Err i ≡ Ok (rank_of k l) = rw h at e in
     let no : ◌≡◌ {A = ℕ} 0 1 = cc in

@@ -93,13 +93,11 @@ impl<const N: usize> SortedKeys<N> {
         ensures is_new { result ≡ not (member_of key self.old) }
         ensures with_it { self.new ≡ put_once_of key self.old }
     {
-        match find(self.keys.as_slice(), key) {
-            Ok(_) => false,
-            Err(at) => {
-                self.keys.insert(at, key);
-                true
-            }
+        let found = find(self.keys.as_slice(), key);
+        if let Err(at) = found {
+            self.keys.insert(at, key);
         }
+        found.is_err()
     }
 
     // Takes out one key that equals `key`, and says whether there was one.
@@ -107,13 +105,11 @@ impl<const N: usize> SortedKeys<N> {
         ensures was_there { result ≡ member_of key self.old }
         ensures without { self.new ≡ delete_of key self.old }
     {
-        match find(self.keys.as_slice(), key) {
-            Ok(at) => {
-                self.keys.remove(at);
-                true
-            }
-            Err(_) => false,
+        let found = find(self.keys.as_slice(), key);
+        if let Ok(at) = found {
+            self.keys.remove(at);
         }
+        found.is_ok()
     }
 
     // The least key, if there is one.

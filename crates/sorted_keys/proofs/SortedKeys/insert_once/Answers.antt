@@ -1,7 +1,6 @@
 -- `SortedKeys::insert_once` meets its contract: a new key finds room.
-use Rattle.std.proofs.Common.{rules, ◌≡◌, ◌<◌, length, arith}
+use Rattle.std.proofs.Common.{rules}
 use Rattle.sorted_keys.proofs.Keys.{once-room}
-use Rattle.sorted_keys.proofs.Ranks.{rank_le}
 use Rattle.sorted_keys.proofs.SortedKeys.insert_once.Goals as goal
 
 pub insert-requires : goal.insert-requires
