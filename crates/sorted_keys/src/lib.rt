@@ -14,8 +14,8 @@ ghost use Rattle.sorted_keys.specs.Least.{least_of, others_of};
 mod search;
 mod words;
 
-pub use search::{rank, stands_at};
 use search::find;
+pub use search::{rank, stands_at};
 use std::marker::Model;
 pub use words::Words;
 

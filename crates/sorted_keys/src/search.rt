@@ -75,13 +75,17 @@ pub fn stands_at(keys: &[u64], at: usize, key: u64) -> bool
     at < keys.len() && keys[at] == key
 }
 
-// Where the key stands, or would stand where it does not: what the library's `binary_search` answers, but by `rank`,
-// and of equal keys the first.
+// Where the key stands, or would stand where it does not: as the library's `binary_search` answers, but by `rank`, and
+// of equal keys the first. Inlined, so that no answer is made in memory.
 #[inline(always)]
 pub(crate) fn find(keys: &[u64], key: u64) -> Result<usize, usize>
     requires { Ordered 0 keys.now }
     ensures { result ≡ found_of key keys.now }
 {
     let at = rank(keys, key);
-    if stands_at(keys, at, key) { Ok(at) } else { Err(at) }
+    if stands_at(keys, at, key) {
+        Ok(at)
+    } else {
+        Err(at)
+    }
 }
