@@ -14,6 +14,7 @@ ghost use Rattle.sorted_keys.specs.Least.{least_of, others_of};
 mod search;
 mod words;
 
+use search::find;
 pub use search::{rank, stands_at};
 use std::marker::Model;
 pub use words::Words;
@@ -57,8 +58,7 @@ impl<const N: usize> SortedKeys<N> {
     pub fn contains(&self, key: u64) -> bool
         ensures { result ≡ member_of key self.now }
     {
-        let keys = self.keys.as_slice();
-        stands_at(keys, rank(keys, key), key)
+        find(self.keys.as_slice(), key).is_ok()
     }
 
     // Takes all keys out.
@@ -93,12 +93,11 @@ impl<const N: usize> SortedKeys<N> {
         ensures is_new { result ≡ not (member_of key self.old) }
         ensures with_it { self.new ≡ put_once_of key self.old }
     {
-        let at = rank(self.keys.as_slice(), key);
-        let is_new = !stands_at(self.keys.as_slice(), at, key);
-        if is_new {
+        let found = find(self.keys.as_slice(), key);
+        if let Err(at) = found {
             self.keys.insert(at, key);
         }
-        is_new
+        found.is_err()
     }
 
     // Takes out one key that equals `key`, and says whether there was one.
@@ -106,12 +105,11 @@ impl<const N: usize> SortedKeys<N> {
         ensures was_there { result ≡ member_of key self.old }
         ensures without { self.new ≡ delete_of key self.old }
     {
-        let at = rank(self.keys.as_slice(), key);
-        let was_there = stands_at(self.keys.as_slice(), at, key);
-        if was_there {
+        let found = find(self.keys.as_slice(), key);
+        if let Ok(at) = found {
             self.keys.remove(at);
         }
-        was_there
+        found.is_ok()
     }
 
     // The least key, if there is one.

@@ -5,6 +5,7 @@
 // asked for, since a slice has no invariant.
 ghost use Rattle.std.specs.Prelude.{◌≡◌, ◌-◌, ◌^◌, ◌<◌, ◌≤◌, if◌then◌else◌, nat_lt, length, slice_index};
 ghost use Rattle.tables.specs.Table.{Ordered, rank_of, member_of};
+ghost use Rattle.sorted_keys.specs.Found.{found_of};
 
 // `count` where `other` is below `key`, else 0: multiplied by the difference's top bit, which no branch has to guess.
 #[tactic(auto, using(crate::proofs::Halves::carry_rules))]
@@ -72,4 +73,19 @@ pub fn stands_at(keys: &[u64], at: usize, key: u64) -> bool
     ensures { result ≡ member_of key keys.now }
 {
     at < keys.len() && keys[at] == key
+}
+
+// Where the key stands, or would stand where it does not: as the library's `binary_search` answers, but by `rank`, and
+// of equal keys the first. Inlined, so that no answer is made in memory.
+#[inline(always)]
+pub(crate) fn find(keys: &[u64], key: u64) -> Result<usize, usize>
+    requires { Ordered 0 keys.now }
+    ensures { result ≡ found_of key keys.now }
+{
+    let at = rank(keys, key);
+    if stands_at(keys, at, key) {
+        Ok(at)
+    } else {
+        Err(at)
+    }
 }
