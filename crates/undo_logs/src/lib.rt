@@ -8,15 +8,13 @@ ghost use Rattle.std.specs.Prelude.{◌≡◌, ◌<◌, ◌≤◌, [], ◌∷◌
 ghost use Rattle.boosting.specs.Room.{takes_by};
 ghost use Rattle.undo_logs.specs.Log.{newest, older};
 
-use entries::Entries;
+use arrayvec::ArrayVec;
 use std::marker::Model;
 use vocabulary::Entry;
 
-mod entries;
-
 #[derive(Drop)]
 pub struct UndoLog {
-    entries: Entries,
+    entries: ArrayVec<Entry, 16>,
     takes: u8,
 }
 
@@ -27,9 +25,9 @@ impl Model for UndoLog {
 
     ghost Value = { List ModelEntry };
 
-    ghost view = { λ l. reverse l.entries };
+    ghost view = { λ l. reverse l.entries.items };
 
-    ghost invariant = { λ l. (length l.entries ≤ 16) × (l.takes ≡ takes_by (reverse l.entries)) };
+    ghost invariant = { λ l. (length l.entries.items ≤ 16) × (l.takes ≡ takes_by (reverse l.entries.items)) };
 }
 
 #[tactic(auto, using(crate::proofs::Takes::takes_rules), unfolding(boosting::specs::Room::takes_by))]
@@ -38,7 +36,7 @@ impl UndoLog {
         ensures { result ≡ [] }
     {
         UndoLog {
-            entries: Entries::new(),
+            entries: ArrayVec::new(),
             takes: 0,
         }
     }

@@ -31,6 +31,19 @@ pub enum Entry {
     Taken(u64),
 }
 
+// No entry stands for none: this one only fills the unused places of a log, for which `ArrayVec` wants a default. No
+// derive makes one, since each kind has a key.
+impl Default for Entry {
+    ghost use Rattle.std.specs.Prelude.{◌≡◌};
+    ghost use Rattle.vocabulary.specs.declared.Entry.TheVariants.{Added};
+
+    ghost is_default = { λ e. e ≡ Added 0 };
+
+    fn default() -> Self {
+        Entry::Added(0)
+    }
+}
+
 // A call on script and queue, with its cue's key.
 #[derive(Clone, Copy, Debug, PartialEq, Eq)]
 pub enum Call {
