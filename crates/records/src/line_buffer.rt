@@ -1,31 +1,25 @@
 // A short line, composed on the stack before it is written: so that all of it is written or nothing, and its bytes are
 // counted nowhere else.
 //
-// Memory is fixed, so it is an array with its length; the kit's `ArrayVec` appends bytes with an error to handle, which
-// a line that has room cannot meet, and its `ArrayString` takes text, where words and bytes here may be any. Lines have
-// no `Display` either: what `fmt` has written where it fails, no clause says. Room is asked for at each push, since a
-// type cannot know what is still to come.
-ghost use Rattle.std.specs.Prelude.{◌≡◌, ◌+◌, ◌≤◌, ℕ, List, [], ◌∷◌, ◌++◌, length, take};
+// Room is asked for at each push, since a type cannot know what is still to come: so no push has an error to handle.
+// Lines have no `Display`: what `fmt` has written where it fails, no clause says.
+ghost use Rattle.std.specs.Prelude.{◌≡◌, ◌+◌, ◌≤◌, ℕ, List, [], ◌∷◌, ◌++◌, length};
 ghost use Rattle.digits.specs.Digits.{digits_of};
 ghost use Rattle.records.specs.Record.{field_text};
 
+use arrayvec::ArrayVec;
 use std::marker::Model;
 
-// The longest line has a word, three numbers of at most twenty digits, and four bytes between and behind them.
-const ROOM: usize = 96;
-
+// 96: the longest line has a word, three numbers of at most twenty digits, and four bytes between and behind them.
 #[derive(Drop)]
 pub struct LineBuffer {
-    bytes: [u8; ROOM],
-    len: usize,
+    bytes: ArrayVec<u8, 96>,
 }
 
 impl Model for LineBuffer {
     ghost Value = { List ℕ };
 
-    ghost view = { λ l. take l.len l.bytes };
-
-    ghost invariant = { λ l. l.len ≤ 96 };
+    ghost view = { λ l. l.bytes.items };
 }
 
 impl LineBuffer {
@@ -33,8 +27,7 @@ impl LineBuffer {
         ensures { result ≡ [] }
     {
         LineBuffer {
-            bytes: [0; ROOM],
-            len: 0,
+            bytes: ArrayVec::new(),
         }
     }
 
@@ -42,17 +35,14 @@ impl LineBuffer {
         requires { length self.old + length bytes.now ≤ 96 }
         ensures { self.new ≡ self.old ++ bytes.now }
     {
-        let end = self.len + bytes.len();
-        self.bytes[self.len..end].copy_from_slice(bytes);
-        self.len = end;
+        self.bytes.try_extend_from_slice(bytes).unwrap();
     }
 
     pub fn push(&mut self, byte: u8)
         requires { length self.old + 1 ≤ 96 }
         ensures { self.new ≡ self.old ++ byte ∷ [] }
     {
-        self.bytes[self.len] = byte;
-        self.len += 1;
+        self.bytes.push(byte);
     }
 
     #[tactic(auto, using(digits::proofs::Decimal::decimal_digits, digits::proofs::Decimal::digits_in_room))]
@@ -78,6 +68,6 @@ impl LineBuffer {
     pub fn as_bytes(&self) -> &[u8]
         ensures { result.now ≡ self.now }
     {
-        &self.bytes[..self.len]
+        self.bytes.as_slice()
     }
 }
