@@ -10,7 +10,7 @@ ghost use Rattle.records.specs.Record.{field_text};
 use arrayvec::ArrayVec;
 use std::marker::Model;
 
-// The longest line has a word, three numbers of at most twenty digits, and four bytes between and behind them.
+// 96: the longest line has a word, three numbers of at most twenty digits, and four bytes between and behind them.
 #[derive(Drop)]
 pub struct LineBuffer {
     bytes: ArrayVec<u8, 96>,
