@@ -1,10 +1,8 @@
 -- Keys that come and go at their ranks. Assumes nothing.
-use Rattle.std.proofs.Common.{◌≡◌, ℕ, zero, suc, ◌+◌, ◌<◌, ◌≤◌, true, false, List, [], ◌∷◌, length, ap, ◌∙◌, arith}
+use Rattle.std.proofs.Common.{◌≡◌, ℕ, zero, suc, ◌+◌, true, false, List, [], ◌∷◌, arith}
 use Rattle.std.specs.List.{insert, remove}
-use Rattle.std.specs.Prelude.{Ok, Err}
 use Rattle.tables.specs.Table.{From, Ordered, rank_of, member_of, insert_of, delete_of, put_once_of}
 use Rattle.tables.proofs.Laws as tables
-use Rattle.sorted_keys.specs.Found.{found_of}
 use Rattle.sorted_keys.specs.Least.{others_of}
 use Rattle.sorted_keys.proofs.Ranks.{rank_le, member_rank}
 
@@ -43,19 +41,6 @@ pub once-new : (k : ℕ) (l : List ℕ) → member_of k l ≡ false → put_once
 unfolding put_once_of
 once-new k l h = rw h
 
--- where a new key finds room there is a place for it, and room for one more
-pub once-room : (k i N : ℕ) (l : List ℕ) → Err i ≡ found_of k l → length (put_once_of k l) ≤ N → (i ≤ length l) × (length l < N)
-once-room k i N l e room =
-    tables.split (member_of k l)
-    (λ h.
-    let there : Err i ≡ Ok (rank_of k l) = rw h at e in
-    let no : ◌≡◌ {A = ℕ} 0 1 = cc in
-    absurd (omega arith))
-    (λ h.
-    let new : Err i ≡ Err (rank_of k l) = rw h at e in
-    let at : i ≡ rank_of k l = cc in
-    (rw at (rank_le k l), omega (arith, room, ap length (once-new k l h) ∙ tables.length_insert k l)))
-
 pub ruleset keys_rules = (
   rank_le,
   tables.member_end,
@@ -64,6 +49,7 @@ pub ruleset keys_rules = (
   insert-rank,
   delete-rank,
   tables.delete_absent,
+  tables.length_insert,
   inserted-Ordered,
   removed-Ordered,
   others-Ordered,
