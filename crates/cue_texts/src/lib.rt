@@ -15,7 +15,8 @@ use records::LineBuffer;
 use refusals::Refusal;
 
 // How many bytes the line of a cue has, with its LF. It stands beside `cue_line` because a text is written whole or not
-// at all: its cues are counted first, and counting composes no line.
+// at all: its cues are counted first, and counting composes no line. Tried as the length of `cue_line`: a script is
+// written a quarter slower, and the desk takes 0.51 where most steps wait and its bar is 0.5.
 #[tactic(auto, using(crate::proofs::Laws::text_counted))]
 pub fn cue_length(cue: Cue) -> usize
     ensures counted { result ≡ length (cue_text cue) }
