@@ -35,6 +35,7 @@ fn push_refusal(line: &mut LineBuffer, refusal: Refusal)
 {
     line.push_bytes(b"refused,");
     if let Refusal::Blocked(e) = refusal {
+        // Its number, by which the line tells that a third field stands behind.
         line.push_field(8, b',');
         // A `usize` has no `From` into `u64`.
         line.push_field(e as u64, b'\n');

@@ -2,7 +2,7 @@
 //
 // The compiler makes one load of the eight. The public function has no `requires`.
 //
-// Text and place are two parameters: a value of both would be made anew for each call.
+// Text and place are two parameters, as in `numbers`: one look at one place needs no cursor.
 #![tactic(auto)]
 
 ghost use Rattle.std.specs.Prelude.{◌+◌, ◌≤◌, ◌≡◌, length, take, drop};

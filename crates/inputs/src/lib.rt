@@ -13,7 +13,7 @@ use line_reader::LineReader;
 // The line that divides an input.
 const STEPS: &[u8] = b"steps";
 
-// Where the first line `steps` begins; the end of the input where there is none.
+// Where the first line `steps` begins; the end of the input where there is none, since it is cut there.
 #[tactic(auto, using(crate::proofs::Division::search_rules))]
 pub fn find_steps(input: &[u8]) -> usize
     ensures { result ≡ min (steps_place (lines_of input.now)) (length input.now) }

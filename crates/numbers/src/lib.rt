@@ -4,7 +4,8 @@
 // writes of a number below 1,000,000,000 is read as that number, and what is read is that number's one form. No public
 // function has a `requires`.
 //
-// Text and place are two parameters: a reader answers a place, and a value of both would be made anew for each call.
+// Text and place are two parameters: a cursor of both would spare one caller, `cue_lines`, two arguments, and each
+// clause would say where it stood and stands, which the place that is answered says already.
 #![tactic(auto)]
 
 ghost use Rattle.std.specs.Prelude.{◌≡◌, length, MatchOption};

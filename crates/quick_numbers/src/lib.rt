@@ -5,7 +5,7 @@
 //
 // It stands beside `numbers` for speed: before the desk had its quick parts, the input that mostly waits took as long
 // as the plain desk, and `seven_digits` was worth 3 % (docs/BENCHMARKS.md, "The desk"). Text and place are two
-// parameters: a value of both would be made anew for each call.
+// parameters, as in `numbers`: one look at one place needs no cursor.
 #![tactic(auto)]
 
 ghost use Rattle.std.specs.Prelude.{◌≡◌, ◌+◌, ◌-◌, ◌*◌, ◌/◌, ◌%◌, ◌^◌, ◌≤◌, drop};

@@ -55,7 +55,7 @@ impl LineBuffer {
         self.push_bytes(digits.format(n).as_bytes());
     }
 
-    // The digits of n and a byte behind them.
+    // The digits of n and a byte behind them: a field, which is nothing by itself before it is pushed.
     pub fn push_field(&mut self, n: u64, behind: u8)
         requires { length self.old + 21 ≤ 96 }
         ensures added { self.new ≡ self.old ++ field_text n behind }

@@ -83,7 +83,7 @@ impl fmt::Display for Refusal {
 impl Error for Refusal {}
 
 // Why a text is refused: the first row that one of its lines meets, and the number of that line, from 1; line 0 where
-// no line is to blame.
+// no line is to blame, which is what is printed then.
 #[derive(Clone, Copy, Debug, PartialEq, Eq)]
 pub struct RefusedText {
     pub refusal: Refusal,

@@ -5,8 +5,8 @@
 // found first and then read. Any text and any place will do; a caller makes the table of words once.
 //
 // It stands beside `steps`, which reads a line whose end is known: to look for that first took the input that mostly
-// waits as long as the plain desk (docs/BENCHMARKS.md, "The desk"). Text and place are two parameters: a scan answers a
-// place, and a value of both would be made anew for each call.
+// waits as long as the plain desk (docs/BENCHMARKS.md, "The desk"). Text and place are two parameters, as
+// in `numbers`.
 #![tactic(auto)]
 
 mod quick;

@@ -1,10 +1,10 @@
 // What a session prints, part behind part: put into a buffer where it is kept, or only counted.
 //
 // `keep` says which. A text that is counted leaves the buffer alone, which may then be empty. A closure or a type in
-// place of `keep` would compile the engine twice, which costs a fifth of the speed; a `dyn` would be called at each
-// line; an `Option` of the buffer would be lent anew at each line, and each clause would take it apart. Buffer, `keep`
-// and place are three parameters, and the room is asked for in each function: it is the room of the text that comes,
-// which no type of the three can know.
+// place of `keep` would compile the engine twice, which costs a fifth of the speed; a `dyn` would be a trait and two
+// impls for one flag; an `Option` of the buffer would be lent anew at each line, and each clause would take it apart.
+// Buffer, `keep` and place are three parameters, and the room is asked for in each function: it is the room of the text
+// that comes, which no type of the three can know.
 ghost use Rattle.answers.specs.Answer.{answer_text};
 ghost use Rattle.closing_lists.specs.Closing.{closing_text};
 ghost use Rattle.session.specs.Output.{start_refused};

@@ -1,7 +1,8 @@
 // The shared object: the script and the queue, with the six calls on them and what takes a call back.
 //
-// Clauses see the model's state. Room is asked for where a key comes in, as the model's rows have found it; the order
-// and the capacities are in the type of the collections. What a call locks, notes and answers is here too.
+// Clauses see the model's state. Room is asked for where a key comes in, as the model's rows have found it: it is that
+// of what comes, which no type can know. The order and the capacities are in the type of the collections. What a call
+// locks, notes and answers is here too.
 #![tactic(auto)]
 
 ghost use Rattle.std.specs.Prelude.{◌≡◌, ◌≤◌, [], length};

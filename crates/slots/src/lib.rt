@@ -20,7 +20,8 @@ use vocabulary::Entry;
 // The script's cues, and one more for each of the 128 entries that eight logs have at most; one slot is spare.
 const MOST: usize = 385;
 
-// How many entries the logs have together: an entry keeps at most one slot, of the script or of the queue.
+// How many entries the logs have together: an entry keeps at most one slot, of the script or of the queue. This and the
+// next differ in what they add up: one function over a closure would be no shorter.
 #[tactic(auto, using(crate::proofs::Counts::entries_next), unfolding(crate::specs::Entries::entries_in))]
 fn all_entries(transactions: &[Transaction; 8]) -> usize
     ensures value { result ≡ entries_in transactions.now }

@@ -105,11 +105,11 @@ impl<const N: usize> SortedKeys<N> {
         ensures was_there { result ≡ member_of key self.old }
         ensures without { self.new ≡ delete_of key self.old }
     {
-        let found = find(self.keys.as_slice(), key);
-        if let Ok(at) = found {
+        let stood = find(self.keys.as_slice(), key);
+        if let Ok(at) = stood {
             self.keys.remove(at);
         }
-        found.is_ok()
+        stood.is_ok()
     }
 
     // The least key, if there is one.

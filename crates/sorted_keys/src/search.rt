@@ -2,7 +2,8 @@
 //
 // In which half it is cannot be guessed, so the search does not branch on it where all keys are below 2^63; the order
 // says that they are where the last one is. For larger keys there is the library's search. The order is
-// asked for, since a slice has no invariant.
+// asked for: these take any slice, which has no invariant, and so slice and key stand side by side. A type that has the
+// order is `SortedKeys`.
 ghost use Rattle.std.specs.Prelude.{◌≡◌, ◌-◌, ◌^◌, ◌<◌, ◌≤◌, if◌then◌else◌, nat_lt, length, slice_index};
 ghost use Rattle.tables.specs.Table.{Ordered, rank_of, member_of};
 ghost use Rattle.sorted_keys.specs.Found.{found_of};
