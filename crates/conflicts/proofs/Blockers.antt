@@ -1,9 +1,10 @@
 -- A search through the transactions from the front: those still to be looked at decide. Assumes nothing.
 use Rattle.std.proofs.Common.{◌≡◌, ◌≢◌, ℕ, ◌+◌, ◌<◌, ◌≤◌, Bool, true, false, List, length, get_or, drop, refl, add-one}
-use Rattle.std.specs.Prelude.{Some, None}
+use Rattle.std.specs.Prelude.{Some, None, nat_eq}
 use Rattle.std.proofs.lemmas.Bool.{eq-eqb, ne_eqb}
 use Rattle.std.proofs.lemmas.List.{drop_more, drop_all}
 use Rattle.tables.specs.Table.{member_of}
+use Rattle.tables.proofs.Laws.{split}
 use Rattle.boosting.specs.Locks.{Lock, cue_lock, Locks, conflicts}
 use Rattle.boosting.specs.Store.{Transaction, blocker}
 
@@ -17,9 +18,11 @@ module _ (e : ℕ) (lock : Lock) (i : ℕ) (ts : List Transaction) (t : Transact
   unfolding blocker
   blocker-here q c = rw (drop_more ts i t h, ne_eqb (i + 1) e q, ← is, c) refl
 
-  pub blocker-passed : i + 1 ≢ e → conflicts lock t.locks ≡ false → blocker e lock (i + 1 + 1) (drop (i + 1) ts) ≡ blocker e lock (i + 1) (drop i ts)
+  pub blocker-passed : conflicts lock t.locks ≡ false → blocker e lock (i + 1 + 1) (drop (i + 1) ts) ≡ blocker e lock (i + 1) (drop i ts)
   unfolding blocker
-  blocker-passed q c = rw (drop_more ts i t h, ne_eqb (i + 1) e q, ← is, c, add-one (i + 1)) refl
+  blocker-passed c =
+      split (nat_eq (i + 1) e) (λ q. rw (drop_more ts i t h, q, add-one (i + 1)) refl)
+      (λ q. rw (drop_more ts i t h, q, ← is, c, add-one (i + 1)) refl)
 
 pub blocker-over : (e : ℕ) (lock : Lock) (i : ℕ) (ts : List Transaction) → length ts ≤ i → blocker e lock (i + 1) (drop i ts) ≡ None
 unfolding blocker

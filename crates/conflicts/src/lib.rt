@@ -18,27 +18,27 @@ pub fn find_blocker(transactions: &[Transaction; 8], e: usize, lock: Lock) -> Op
     ensures first { result ≡ blocker e lock 1 transactions.now }
     ensures in_range { IfSome result (λ f. f ≤ 8) }
 {
-    // A rule of the project fixes this form: nested loops, left by a labelled break with the one in the way. The place
-    // of e is by `wrapping_sub`: for 0 it is none of the eight, and `i + 1 != e` costs the input that mostly waits 5 %.
+    // A rule of the project fixes this form: nested loops, left by a labelled break with the one in the way. Whether a
+    // lock is e's own is asked last: asked first, the input that mostly waits takes 4 % longer. The own place is by
+    // `wrapping_sub`: for e = 0 it is none of the eight, and `i + 1 != e` costs that input 4 % too.
+    let own = e.wrapping_sub(1);
     let blocker = 'search: {
         for (i, transaction) in transactions.iter().enumerate() {
-            if i != e.wrapping_sub(1) {
-                let locks = transaction.locks();
-                match lock {
-                    Lock::Cue(key) => {
-                        // The sieve rules most transactions out at a glance.
-                        if locks.may_hold(key) {
-                            for held in locks.cues() {
-                                if *held == key {
-                                    break 'search Some(i + 1);
-                                }
+            let locks = transaction.locks();
+            match lock {
+                Lock::Cue(key) => {
+                    // The sieve rules most transactions out at a glance.
+                    if locks.may_hold(key) {
+                        for held in locks.cues() {
+                            if *held == key && i != own {
+                                break 'search Some(i + 1);
                             }
                         }
                     }
-                    Lock::Push | Lock::Look | Lock::Take => {
-                        if locks.conflicts(lock) {
-                            break 'search Some(i + 1);
-                        }
+                }
+                Lock::Push | Lock::Look | Lock::Take => {
+                    if locks.conflicts(lock) && i != own {
+                        break 'search Some(i + 1);
                     }
                 }
             }
