@@ -52,9 +52,9 @@ impl Store {
         Answer::Ok
     }
 
-    // The newest entry of an aborting transaction is taken back: how many are left.
+    // The newest entry of an aborting transaction is taken back, and with none left it closes: how many are left.
     #[tactic(auto, using(crate::proofs::Performed::rolled_rules), unfolding(boosting::specs::Step::perform))]
-    pub(crate) fn roll_back(&mut self, e: TransactionNumber) -> Answer
+    pub fn roll_back(&mut self, e: TransactionNumber) -> Answer
         requires { (transaction self.old e).standing ≡ aborting }
         ensures store { self.new ≡ (perform self.old e roll_back).store }
         ensures answer { result ≡ (perform self.old e roll_back).answer }

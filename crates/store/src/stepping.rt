@@ -117,10 +117,11 @@ impl Store {
         }
     }
 
-    // One request: turned away with nothing changed, or accepted and done.
+    // One request: turned away with nothing changed, or accepted and done. A call's key has to be that of a cue: steps
+    // make no other.
     #[inline(always)]
     #[tactic(auto, using(crate::proofs::Rows::request_rules))]
-    fn try_request(&mut self, request: Request) -> Result<Answer, Refusal>
+    pub fn try_request(&mut self, request: Request) -> Result<Answer, Refusal>
         requires { RequestKey (Some request) }
         ensures store { self.new ≡ (step_on self.old (Some request)).store }
         ensures answer { answered result ≡ (step_on self.old (Some request)).answer }
