@@ -2,7 +2,7 @@
 // line for each step, then the script and the queue after recovery; or the one line `start,n,line` of a refused start.
 //
 // One byte more than an input may have is read, so that a longer input is told apart. The output always fits.
-// The programs are alike in how they read and write, by the library's reader and writer.
+// The programs are alike in how they read and write, by the library's reader and writer (why: `cue_format`).
 #![tactic(auto)]
 
 use session::{ROOM, run_session};

@@ -28,7 +28,7 @@ fn stamp_input<R: Input + AllocGlobal>(rt: &R) -> io::Result<u32> {
 fn main(rt: HostRuntime) -> io::Result<()> {
     let sum = stamp_input(&rt)?;
     let mut output = [0u8; 16];
-    // Sixteen bytes are enough for every stamp, so nothing is refused. The other programs end alike.
+    // Sixteen bytes are enough for every stamp, so nothing is refused. The programs end alike (why: `cue_format`).
     let written = write_field(&mut output, 0, u64::from(sum), b'\n');
     if let Ok(end) = written {
         io::writer(&rt).write_all(&output[..end])?;

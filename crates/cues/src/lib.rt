@@ -18,6 +18,7 @@ pub struct Cue {
 }
 
 impl Cue {
+    // No `From`, here and below: a number is no cue, and the name says which number is meant.
     pub fn key(self) -> u64
         ensures { result ≡ key_of self }
     {

@@ -25,9 +25,8 @@ pub struct Line {
 }
 
 // The place of the first sep at or after a place; the text's length where there is none, and the place itself where
-// it is past the end. The second clause is the bound that a caller's index needs. No `Option`: callers cut
-// there. By its index, since `position` on the
-// rest of the slice would need a place within it, and its answer added to that.
+// it is past the end. The second clause is the bound that a caller's index needs. No `Option`: callers cut there. By
+// its index, since `position` on the rest of the slice would need a place within it, and its answer added to that.
 pub fn find_byte(s: &[u8], at: usize, sep: u8) -> usize
     ensures { (result ≡ at + up_to sep (drop at s.now)) × (result ≤ max at (length s.now)) }
 {

@@ -23,8 +23,8 @@ pub fn field_line(n: u64, behind: u8) -> LineBuffer
     line
 }
 
-// Writes the digits of n and a byte behind them at a place of the buffer, if they fit there. This and the writers above
-// are one call each, which a common one would not shorten.
+// Writes the digits of n and a byte behind them at a place of the buffer, if they fit there. This, `write_record` and
+// the writers of lines in the crates above are one call each, which a common one would not shorten.
 pub fn write_field(buf: &mut [u8], at: usize, n: u64, behind: u8) -> Result<usize, Refusal>
     ensures { (result, buf.new) ≡ written_at buf.old at (field_text n behind) }
 {

@@ -10,7 +10,7 @@ ghost use Rattle.records.specs.Record.{field_text};
 use arrayvec::ArrayVec;
 use std::marker::Model;
 
-// 96: the longest line has a word, three numbers of at most twenty digits, and four bytes between and behind them.
+// 96: the lines of a transaction's three modes have together at most 93 bytes, any other line fewer.
 #[derive(Drop)]
 pub struct LineBuffer {
     bytes: ArrayVec<u8, 96>,
@@ -55,7 +55,8 @@ impl LineBuffer {
         self.push_bytes(digits.format(n).as_bytes());
     }
 
-    // The digits of n and a byte behind them: a field, which is nothing by itself before it is pushed.
+    // The digits of n and a byte behind them. Number and byte are two parameters here and in `field_line` and
+    // `write_field`: no value of both is ever kept.
     pub fn push_field(&mut self, n: u64, behind: u8)
         requires { length self.old + 21 ≤ 96 }
         ensures added { self.new ≡ self.old ++ field_text n behind }

@@ -4,9 +4,9 @@
 // Most lines have a plain form, which `quick` reads in one pass, without looking for their end first. Any other line is
 // found first and then read. Any text and any place will do; a caller makes the table of words once.
 //
-// It stands beside `steps`, which reads a line whose end is known: to look for that first took the input that mostly
-// waits as long as the plain desk (docs/BENCHMARKS.md, "The desk"). Text and place are two parameters, as
-// in `numbers`.
+// It stands beside `steps`, which reads a line whose end is known: before the desk had its quick parts, of which this
+// is one, the input that mostly waits took as long as the plain desk (docs/BENCHMARKS.md, "The desk"). Text and place
+// are two parameters, as in `numbers`.
 #![tactic(auto)]
 
 mod quick;

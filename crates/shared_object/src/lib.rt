@@ -123,16 +123,8 @@ impl SharedObject {
         ensures { result ≡ reply_of call self.now }
     {
         match call {
-            Call::Add(key) => if self.script.contains(key) {
-                Reply::No
-            } else {
-                Reply::Yes
-            },
-            Call::Remove(key) | Call::Has(key) => if self.script.contains(key) {
-                Reply::Yes
-            } else {
-                Reply::No
-            },
+            Call::Add(key) => Reply::from(!self.script.contains(key)),
+            Call::Remove(key) | Call::Has(key) => Reply::from(self.script.contains(key)),
             Call::Push(_) => Reply::Ok,
             Call::Min | Call::Take => match self.queue.first() {
                 Some(key) => Reply::Cue(key),

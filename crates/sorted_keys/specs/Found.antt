@@ -1,4 +1,4 @@
--- Where a key stands in a sorted list, or would stand.
+-- Where a key stands in a sorted list, or would stand. Assumes nothing.
 use Rattle.std.specs.Prelude.{ℕ, List, Result, Ok, Err, if◌then◌else◌}
 use Rattle.tables.specs.Table.{rank_of, member_of}
 

@@ -1,4 +1,4 @@
--- The first key of a list, which is the least of a rising one, and the others.
+-- The first key of a list, which is the least of a rising one, and the others. Assumes nothing.
 use Rattle.std.specs.Prelude.{ℕ, List, [], ◌∷◌, Option, Some, None}
 
 abbrev pub least_of : List ℕ → Option ℕ

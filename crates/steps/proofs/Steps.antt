@@ -3,9 +3,12 @@ use Rattle.std.proofs.Common.{◌≡◌, ℕ, List, [], ◌+◌, ◌-◌, length
 use mathlib.Core.Logic.{⊎_elim}
 use lib.ListN.{drop_of_length-le}
 use lib.Seq.{take_all}
-use Rattle.std.specs.Prelude.{Option, Some, None}
+use Rattle.std.specs.Prelude.{suc, ◌<◌, ◌≤◌, ◌==◌, ◌∷◌, nat_lt, Bool, true, false, not, cond, position}
+use Rattle.std.specs.Prelude.{Option, Some, None, MatchOption}
+use Rattle.std.specs.List.{position_or_len}
 use Rattle.std.specs.Option.{option_and_then}
 use Rattle.lines.specs.Lines.{up_to}
+use Rattle.lines.proofs.Laws.{up_le}
 use Rattle.numbers.specs.declared.Field.{Field}
 use Rattle.numbers.specs.Field.{field, others, InnerField, NoInnerField}
 use Rattle.numbers.specs.Number.{number_of}
@@ -66,3 +69,25 @@ with_nil None = refl
 
 pub no_fields : (l : List ℕ) → up_to 44 l ≡ length l → None ≡ step_of l
 no_fields l e = sym (rw (past l (up_to 44 l) e) (with_nil (word_of (field l))))
+
+-- ---- the first comma, as `position` finds it
+abbrev pub is_comma : ℕ → Bool
+is_comma byte = byte == 44
+
+up_to-is : (l : List ℕ) → position_or_len is_comma l ≡ up_to 44 l
+unfolding up_to
+up_to-is [] = refl
+up_to-is (b ∷ bs) = one (b == 44) (up_to-is bs)
+  where
+    one : (t : Bool) {n m : ℕ} → n ≡ m → cond (not t) (1 + n) 0 ≡ cond t 0 (suc m)
+    one true e = refl
+    one false e = omega arith
+
+found_below : (n m : ℕ) (t : Bool) → n ≤ m → nat_lt n m ≡ t
+    → MatchOption (cond t (Some n) None) (n ≡ m) (λ i. (i ≡ n) × (i < m))
+found_below n m true h q = (refl, grind arith)
+found_below n m false h q = grind arith
+
+pub comma_found : (l : List ℕ) (r : Option ℕ) → r ≡ position is_comma l
+    → MatchOption r (up_to 44 l ≡ length l) (λ i. (i ≡ up_to 44 l) × (i < length l))
+comma_found l r e = rw (e, up_to-is l) (found_below (up_to 44 l) (length l) _ (up_le 44 l) refl)

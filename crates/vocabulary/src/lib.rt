@@ -65,6 +65,19 @@ pub enum Reply {
     Cue(u64),
 }
 
+// Yes, if it is so.
+impl From<bool> for Reply {
+    ghost use Rattle.std.specs.Prelude.{◌≡◌, if◌then◌else◌};
+    ghost use Rattle.vocabulary.specs.declared.Reply.TheVariants.{Yes, No};
+
+    ghost from_gives = { λ is_so reply. reply ≡ (if is_so then Yes else No) };
+
+    #[inline(always)]
+    fn from(is_so: bool) -> Reply {
+        if is_so { Reply::Yes } else { Reply::No }
+    }
+}
+
 // What a step asks of a transaction. Users write `undo` for `Abort` and `back` for `RollBack`.
 #[derive(Clone, Copy, Debug, PartialEq, Eq)]
 pub enum Action {

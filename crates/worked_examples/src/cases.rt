@@ -42,13 +42,12 @@ pub fn report<R: Print>(rt: &R, name: &[u8], right: bool) {
 
 // The place behind the line that goes on at a place.
 fn line_after(text: &[u8], at: usize) -> usize
+    requires { at ≤ length text.now }
     ensures { result ≤ length text.now }
 {
-    let end = find_byte(text, at, LF);
-    if end < text.len() {
-        end + 1
-    } else {
-        text.len()
+    match text[at..].iter().position(|byte| *byte == LF) {
+        Some(i) => at + i + 1,
+        None => text.len(),
     }
 }
 
