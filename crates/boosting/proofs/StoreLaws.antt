@@ -11,7 +11,7 @@ use lib.Seq.{get_or-set_same, get_or-set_other}
 use Rattle.std.proofs.lemmas.Grind.{get_or_head, get_or_tail}
 use Rattle.boosting.specs.Object.{State}
 use Rattle.boosting.specs.Locks.{Lock, conflicts}
-use Rattle.boosting.specs.Store.{Standing, closed, «open», Transaction, closed_transaction, Store, valid, transaction}
+use Rattle.boosting.specs.Store.{Transaction, closed_transaction, Store, valid, transaction}
 use Rattle.boosting.specs.Store.{put, blocker}
 use Rattle.boosting.proofs.ObjectLaws.{no_locks_no_conflict}
 

@@ -3,9 +3,8 @@
 use mathlib.Core.Path.{◌≡◌, refl, sym, ap, ◌∙◌}
 use mathlib.Core.Bool.{Bool}
 use mathlib.Core.List.{List, [], ◌∷◌, ◌++◌, map, map-append, reverse-append, append_assoc}
-use Prim.Native.Nat.{ℕ, ◌+◌, ◌≤◌}
+use Prim.Native.Nat.{ℕ}
 use native.Mathlib.Omega.{arith}
-use lib.ListN.{length}
 use Rattle.std.specs.Prelude.{Option}
 use Rattle.steps.specs.declared.reading.Step.{Step}
 use Rattle.steps.specs.Step.{step_of}
@@ -14,7 +13,7 @@ use Rattle.answers.specs.declared.Answer.{Answer}
 use Rattle.boosting.specs.Store.{Store}
 use Rattle.boosting.specs.Rows.{request_of}
 use Rattle.boosting.specs.Step.{Out, step_on, step_line}
-use Rattle.boosting.specs.Run.{Event, Run, advance, run_from, run, answer_at}
+use Rattle.boosting.specs.Run.{Event, Run, advance, run_from, run}
 use Rattle.session.specs.Output.{answers_text, answer_lines}
 use Rattle.session.specs.Printing.{HasRoom, Printed}
 use Rattle.session.proofs.Parts.{first_room, rest_room, both_printed}

@@ -1,6 +1,6 @@
 -- A store that is opened: the keys of the script read, an empty queue, eight closed transactions. Assumes nothing.
 use Rattle.std.proofs.Common.{◌≡◌, ℕ, List, [], replicate, sym, ap, subst, ◌∙◌, arith}
-use Rattle.std.specs.Prelude.{Result, Ok, Err}
+use Rattle.std.specs.Prelude.{Result, Ok}
 use Rattle.refusals.specs.declared.RefusedText.{RefusedText}
 use Rattle.scripts.specs.Script.{script_of, script_or_empty}
 use Rattle.boosting.specs.Object.{State}

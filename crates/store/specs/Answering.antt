@@ -1,5 +1,5 @@
 -- What opening and stepping answer. Assumes nothing.
-use Rattle.std.specs.Prelude.{ℕ, List, Option, Some, None, Result, Ok, Err}
+use Rattle.std.specs.Prelude.{ℕ, List, Some, None, Result, Ok, Err}
 use Rattle.refusals.specs.declared.Refusal.{Refusal}
 use Rattle.refusals.specs.declared.RefusedText.{RefusedText}
 use Rattle.answers.specs.declared.Answer.{Answer}
