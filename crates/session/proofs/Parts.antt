@@ -6,7 +6,7 @@ use Prim.Native.Nat.{ℕ, ◌+◌}
 use native.Mathlib.Omega.{arith}
 use lib.ListN.{length, length-append}
 use lib.Seq.{length-sets}
-use Rattle.std.specs.Prelude.{Result, Ok, is_ok, IsOk}
+use Rattle.std.specs.Prelude.{Result}
 use Rattle.std.specs.Result.{result_unwrap_or}
 use Rattle.refusals.specs.declared.Refusal.{Refusal}
 use Rattle.buffers.specs.Written.{written_at}
@@ -24,15 +24,12 @@ appended keep buf mid text at end k h e =
       stored = λ t. ap (λ (p : ℕ × List ℕ). p.1) e ∙ w.1;
     }
 
-module _ (keep : Bool) (buf mid text : List ℕ) (r : Result ℕ Refusal) (at : ℕ) (k : keep ≡ true)
-    (h : HasRoom keep buf at text) (e : (r, mid) ≡ written_at buf at text) where
-  pub is_written : IsOk r
-  is_written = ap is_ok (written_back r buf mid text at (h.in_buffer k) e).0
-
-  pub by_writer : (end : ℕ) → r ≡ Ok end → Printed keep buf at text end mid
-  by_writer end u =
-      let w = written_back r buf mid text at (h.in_buffer k) e in
-      record { place = ap (λ (x : Result ℕ Refusal). result_unwrap_or x at) (sym u ∙ w.0); stored = λ t. w.1 }
+pub by_writer : (keep : Bool) (buf mid text : List ℕ) (r : Result ℕ Refusal) (at end : ℕ) → keep ≡ true
+    → HasRoom keep buf at text → (r, mid) ≡ written_at buf at text → end ≡ result_unwrap_or r at
+    → Printed keep buf at text end mid
+by_writer keep buf mid text r at end k h e u =
+    let w = written_back r buf mid text at (h.in_buffer k) e in
+    record { place = u ∙ ap (λ (x : Result ℕ Refusal). result_unwrap_or x at) w.0; stored = λ t. w.1 }
 
 -- a text in two parts
 module _ (keep : Bool) (buf u v all : List ℕ) (at : ℕ) (q : all ≡ u ++ v) where

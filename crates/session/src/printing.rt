@@ -35,7 +35,7 @@ pub fn put_closing(buf: &mut [u8], keep: bool, at: usize, object: &SharedObject)
     ensures { Printed keep buf.old at (closing_text object.now) result buf.new }
 {
     if keep {
-        return write_closing(buf, at, object.script(), object.queue()).unwrap();
+        return write_closing(buf, at, object.script(), object.queue()).unwrap_or(at);
     }
     at + closing_length(object.script(), object.queue())
 }
@@ -49,7 +49,7 @@ pub fn put_refused(buf: &mut [u8], keep: bool, refused: RefusedText) -> usize
     // A `usize` has no `From` into `u64`.
     let line = refused.line as u64;
     if keep {
-        return write_record(buf, 0, b"start", number, line).unwrap();
+        return write_record(buf, 0, b"start", number, line).unwrap_or(0);
     }
     // The word `start`, two commas and the LF; nothing is composed where nothing is kept.
     8 + digit_count(number) + digit_count(line)

@@ -1,16 +1,12 @@
 use Rattle.std.proofs.Common.{arith}
-use Rattle.session.proofs.Parts.{is_written, by_writer}
+use Rattle.session.proofs.Parts.{by_writer}
 use Rattle.session.proofs.Fitting.{refused_length}
 use Rattle.session.proofs.printing.put_refused.Goals as goal
 
-pub unwrap-requires : goal.unwrap-requires
-unwrap-requires c =
-    is_written _ _ _ _ _ _ c.if-keep.true c.requires (rw c.number-number.ensures.is_the_row at c.write_record.ensures)
-
 pub returns-then-keep : goal.returns-then-keep
 returns-then-keep c =
-    by_writer _ _ _ _ _ _ c.if-keep.true c.requires (rw c.number-number.ensures.is_the_row at c.write_record.ensures)
-    _ c.unwrap.ensures
+    by_writer _ _ _ _ _ _ _ c.if-keep.true c.requires (rw c.number-number.ensures.is_the_row at c.write_record.ensures)
+    c.unwrap_or.ensures
 
 pub returns : goal.returns
 returns c =
