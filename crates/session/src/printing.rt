@@ -29,7 +29,8 @@ pub fn put_answer(buf: &mut [u8], keep: bool, at: usize, answer: Answer) -> usiz
     at + answer_length(answer)
 }
 
-// The closing lists: the place behind them.
+// The closing lists: the place behind them. By `unwrap_or`, here and below, though there is room: with `unwrap` the
+// compiler arranges the loop of the steps another way, and the input that mostly waits takes 2 % longer.
 pub fn put_closing(buf: &mut [u8], keep: bool, at: usize, object: &SharedObject) -> usize
     requires { HasRoom keep buf.old at (closing_text object.now) }
     ensures { Printed keep buf.old at (closing_text object.now) result buf.new }
