@@ -15,7 +15,7 @@ use arrayvec::ArrayVec;
 use std::marker::Model;
 use vocabulary::Lock;
 
-// A transaction may hold each of the queue's modes, so these are three facts and not one of a kind.
+// A transaction may hold each of the queue's modes, so there are three flags and no enum of them.
 #[derive(Drop)]
 pub struct HeldLocks {
     cues: ArrayVec<u64, 24>,

@@ -1,7 +1,7 @@
 // Words in an array, with how many there are: a vector of a fixed capacity. Its moves are copies within the array.
 //
-// The kit's `ArrayVec` was tried: the steps that mostly wait took 0.52 of plain Rust's time with it, and less without
-// it. The desk's bar is 0.5.
+// The kit's `ArrayVec` was tried: the steps that mostly wait took 0.52 of plain Rust's time with it, and they meet the
+// desk's bar of 0.5 without it.
 ghost use Rattle.std.specs.Prelude.{◌≡◌, ℕ, ◌<◌, ◌≤◌, List, [], length, take, insert, remove};
 ghost use Rattle.sorted_keys.specs.Least.{least_of, others_of};
 

@@ -30,7 +30,7 @@ fn read_cue_step(word: CueWord, fields: &[u8]) -> Option<Step>
     Some(Step::WithCue(word, e.value, cue))
 }
 
-// Where the first comma stands, if there is one. Apart from `read_step`: of a chain nothing is known behind a `?`.
+// Where the first comma stands, if there is one. A function of its own: of a chain nothing is known behind its `?`.
 fn find_comma(s: &[u8]) -> Option<usize>
     ensures { MatchOption result (up_to 44 s.now ≡ length s.now) (λ i. (i ≡ up_to 44 s.now) × (i < length s.now)) }
 {
