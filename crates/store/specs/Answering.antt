@@ -1,9 +1,6 @@
 -- What opening and stepping answer. Assumes nothing.
 use Rattle.std.specs.Prelude.{ℕ, List, Some, None, Result, Ok, Err}
-use Rattle.refusals.specs.declared.Refusal.{Refusal}
 use Rattle.refusals.specs.declared.RefusedText.{RefusedText}
-use Rattle.answers.specs.declared.Answer.{Answer}
-use Rattle.answers.specs.declared.Answer.TheVariants.{Refused}
 use Rattle.boosting.specs.Object.{State, Reply, reply, is_ok}
 use Rattle.boosting.specs.Rows.{Action, begin, commit, abort, roll_back, call}
 
@@ -11,11 +8,6 @@ use Rattle.boosting.specs.Rows.{Action, begin, commit, abort, roll_back, call}
 abbrev pub opening : Result (List ℕ) RefusedText → Result Unit RefusedText
 opening (Ok script) = Ok tt
 opening (Err why) = Err why
-
--- a refused step is answered by its row
-abbrev pub answered : Result Answer Refusal → Answer
-answered (Ok a) = a
-answered (Err r) = Refused r
 
 -- what a call would be answered by the object; the other actions do not ask it
 abbrev pub foretold : Action → State → Reply

@@ -5,7 +5,7 @@ ghost use Rattle.boosting.specs.Rows.{number_action, cue_call, on_cue_of, refusa
 ghost use Rattle.boosting.specs.Sound.{ActionKey, RequestKey};
 ghost use Rattle.boosting.specs.Step.{perform, step_on, step_line};
 ghost use Rattle.admission.specs.Answers.{admitted};
-ghost use Rattle.store.specs.Answering.{answered, foretold};
+ghost use Rattle.store.specs.Answering.{foretold};
 
 use crate::Store;
 use admission::try_call;
@@ -124,7 +124,7 @@ impl Store {
     pub fn try_request(&mut self, request: Request) -> Result<Answer, Refusal>
         requires { RequestKey (Some request) }
         ensures store { self.new ≡ (step_on self.old (Some request)).store }
-        ensures answer { answered result ≡ (step_on self.old (Some request)).answer }
+        ensures answer { result ≡ admitted (refusal_of self.old (Some request)) (step_on self.old (Some request)).answer }
     {
         let reply = self.admit(request)?;
         let e = TransactionNumber::try_from(request.transaction)?;
