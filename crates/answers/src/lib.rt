@@ -8,8 +8,9 @@ ghost use Rattle.buffers.specs.Written.{written_at};
 ghost use Rattle.answers.specs.Answer.{refusal_text, answer_text};
 
 use buffers::write_bytes;
-use cue_texts::cue_line;
+use cue_texts::{cue_length, cue_line};
 use cues::Cue;
+use digits::digit_count;
 use records::LineBuffer;
 use refusals::Refusal;
 
@@ -76,9 +77,31 @@ pub fn write_answer(buf: &mut [u8], at: usize, answer: Answer) -> Result<usize, 
     write_bytes(buf, at, answer_line(answer).as_bytes())
 }
 
-// How many bytes the line of an answer has, with its LF.
+// How many bytes the line of a refusal has, with its LF.
+#[tactic(auto, using(records::proofs::Laws::field_length, records::proofs::Laws::record_length), unfolding(crate::specs::Answer::refusal_text))]
+fn refusal_length(refusal: Refusal) -> usize
+    ensures { result ≡ length (refusal_text refusal) }
+{
+    if let Refusal::Blocked(e) = refusal {
+        // A `usize` has no `From` into `u64`.
+        return 11 + digit_count(e as u64);
+    }
+    9 + digit_count(refusal.number())
+}
+
+// How many bytes the line of an answer has, with its LF. No line is composed: a session that is only counted asks this
+// at each step, and took twice the time with composed ones.
+#[tactic(auto, using(records::proofs::Laws::field_length))]
 pub fn answer_length(answer: Answer) -> usize
     ensures { result ≡ length (answer_text answer) }
 {
-    answer_line(answer).as_bytes().len()
+    match answer {
+        Answer::Ok | Answer::No => 3,
+        Answer::Yes => 4,
+        Answer::Empty => 6,
+        Answer::Cue(cue) => 4 + cue_length(cue),
+        // A `usize` has no `From` into `u64`.
+        Answer::Left(n) => 6 + digit_count(n as u64),
+        Answer::Refused(refusal) => refusal_length(refusal),
+    }
 }
