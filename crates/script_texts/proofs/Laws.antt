@@ -1,9 +1,8 @@
 -- Laws of writing the cues of a table, a key at a time. Assumes nothing.
-use Rattle.std.proofs.Common.{◌≡◌, ℕ, ◌+◌, ◌≤◌, ◌<◌, min, List, [], ◌++◌, length, get_or, take, drop, ap, ◌∙◌, arith}
+use Rattle.std.proofs.Common.{◌≡◌, ℕ, ◌+◌, ◌≤◌, ◌<◌, List, [], ◌++◌, length, get_or, take, drop, ap, ◌∙◌, arith}
 use Rattle.std.proofs.Common.{add-one, length-append}
-use Rattle.std.proofs.Math.Nat.{min_comm}
 use Rattle.std.proofs.Math.Seq.{drop-cons}
-use Rattle.std.proofs.lemmas.List.{take_all, take_min}
+use Rattle.std.proofs.lemmas.List.{take_all}
 use Rattle.std.specs.Prelude.{Result}
 use Rattle.refusals.specs.declared.Refusal.{Refusal}
 use Rattle.buffers.specs.Written.{written_at}
@@ -27,9 +26,6 @@ pub text_parts : (ks : List ℕ) (i : ℕ) (c : Cue) → c ≡ cue_of (get_or ks
     → Parts (text_of (drop i ks)) (cue_text c) (text_of (drop (i + 1) ks))
 text_parts ks i c e h = record { are = rw e (text_more ks i h) }
 
-pub few_taken : (n : ℕ) (ks : List ℕ) → n ≡ min (length ks) 256 → take n ks ≡ take 256 ks
-few_taken n ks e = rw e (ap (λ (m : ℕ). take m ks) (min_comm (length ks) 256) ∙ take_min 256 ks)
-
 -- what is written of the first 256 keys is written of all, where there are no more
 pub written_whole : (buf ks : List ℕ) (at : ℕ) {mid first : List ℕ} {r : Result ℕ Refusal} → first ≡ take 256 ks
     → (r, mid) ≡ written_at buf at (text_of first)
@@ -40,5 +36,3 @@ pub written_whole : (buf ks : List ℕ) (at : ℕ) {mid first : List ℕ} {r : R
 written_whole buf ks at {mid} {first} q w =
     let by = λ (l : List ℕ). written_at buf at (text_of l) in
     record { written = w ∙ ap by q; whole = λ h. w ∙ ap by (q ∙ take_all 256 ks h) }
-
-pub ruleset take_rules = (few_taken, take_all)

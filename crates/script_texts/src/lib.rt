@@ -15,7 +15,7 @@ use refusals::Refusal;
 use scripts::Script;
 
 // The keys of a table: all of them, but never more than 256, so that no length of their text can wrap.
-#[tactic(auto, using(crate::proofs::Laws::take_rules))]
+#[tactic(auto, using(scripts::proofs::First::take_rules))]
 fn first_keys(keys: &[u64]) -> &[u64]
     ensures first { result.now ≡ take 256 keys.now }
     ensures few { length result.now ≤ 256 }

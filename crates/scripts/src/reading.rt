@@ -1,21 +1,21 @@
 // Script texts, read into a sorted table of keys.
-ghost use Rattle.std.specs.Prelude.{◌≡◌, ℕ, List, [], ◌≤◌, length};
+ghost use Rattle.std.specs.Prelude.{◌≡◌, ℕ, List, [], ◌≤◌, length, take};
 ghost use Rattle.lines.specs.Lines.{lines_of};
 ghost use Rattle.cue_lines.specs.CueLine.{cue_line_of};
-ghost use Rattle.tables.specs.Table.{Ordered};
 ghost use Rattle.scripts.specs.Script.{by_key, by_line, read_from, script_of};
 ghost use Rattle.scripts.specs.Taken.{taken};
 
 use cue_lines::read_cue;
 use line_reader::LineReader;
 use refusals::{Refusal, RefusedText, check_length};
-use sorted_keys::SortedKeys;
+use sorted_keys::{SortedKeys, Words};
 use std::marker::Model;
 
-// A set of at most 256 cues, each by its key. Clauses see the keys in their order.
+// At most 256 words, each the key of a cue. Clauses see them as they stand: those of a script that is read are in order,
+// each once (`ReadIsSound`); others are written as they are.
 #[derive(Drop)]
 pub struct Script {
-    keys: SortedKeys<256>,
+    keys: Words<256>,
 }
 
 impl Model for Script {
@@ -29,29 +29,38 @@ impl Script {
     pub fn new() -> Self
         ensures { result ≡ [] }
     {
-        Script {
-            keys: SortedKeys::new(),
-        }
+        Script { keys: Words::new() }
+    }
+
+    // The script of these words, whatever they are; of the first 256, where there are more.
+    #[tactic(auto, using(crate::proofs::First::take_rules))]
+    pub fn of_keys(keys: &[u64]) -> Self
+        ensures first { result ≡ take 256 keys.now }
+        ensures whole { length keys.now ≤ 256 → result ≡ keys.now }
+    {
+        let mut script = Script::new();
+        script.keys.copy_from(&keys[..keys.len().min(256)]);
+        script
     }
 
     pub fn keys(&self) -> &[u64]
         ensures value { result.now ≡ self.now }
         ensures fits { length result.now ≤ 256 }
-        ensures in_order { Ordered 0 self.now }
     {
         self.keys.as_slice()
     }
 }
 
-// Puts a key into the table, unless it is there.
+// Puts a key into the table, unless it is there. One search a line: a full table is only asked.
 #[tactic(auto, using(crate::proofs::ReadLaws::key_rules))]
 fn take_key(keys: &mut SortedKeys<256>, key: u64) -> Result<(), Refusal>
     ensures { taken result keys.new ≡ by_key keys.old key }
 {
-    if keys.len() == 256 && !keys.contains(key) {
+    if keys.len() < 256 {
+        keys.insert_once(key);
+    } else if !keys.contains(key) {
         return Err(Refusal::ScriptFull);
     }
-    keys.insert_once(key);
     Ok(())
 }
 
@@ -85,5 +94,7 @@ pub fn read_script(text: &[u8]) -> Result<Script, RefusedText>
     check_length(text)?;
     let mut keys = SortedKeys::new();
     take_lines(&mut keys, text)?;
-    Ok(Script { keys })
+    Ok(Script {
+        keys: keys.into_words(),
+    })
 }

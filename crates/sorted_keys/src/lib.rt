@@ -55,6 +55,14 @@ impl<const N: usize> SortedKeys<N> {
         self.keys.as_slice()
     }
 
+    // The keys as words, which keep their order though nothing asks for it any more.
+    pub fn into_words(self) -> Words<N>
+        ensures { result ≡ self.entry }
+    {
+        let SortedKeys { keys } = self;
+        keys
+    }
+
     pub fn contains(&self, key: u64) -> bool
         ensures { result ≡ member_of key self.now }
     {

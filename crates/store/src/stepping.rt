@@ -95,11 +95,32 @@ impl Store {
         }
     }
 
+    // What an accepted request would be answered by the object; `Ok` where it is no call.
+    fn foretell(&self, action: Action) -> Reply
+        ensures { result ≡ foretold action self.now.state }
+    {
+        match action {
+            Action::OnObject(Some(call)) => self.object.reply(call),
+            _ => Reply::Ok,
+        }
+    }
+
+    // An accepted request is done: it has to be one that no row turns away (`admit`), so nothing is refused.
+    pub fn perform(&mut self, e: TransactionNumber, action: Action) -> Answer
+        requires accepted { refusal_of self.old (request e action) ≡ None }
+        requires is_key { ActionKey action }
+        ensures store { self.new ≡ (perform self.old e action).store }
+        ensures answer { result ≡ (perform self.old e action).answer }
+    {
+        let reply = self.foretell(action);
+        self.perform_known(e, action, reply)
+    }
+
     // An accepted request is done, whose reply is known. That a call's key is a cue's, and that the reply is the
     // object's, is asked here and in two more functions: `Call` is the model's own type, which has no invariant, and no
     // type of call and reply could know the object as it stands.
     #[inline(always)]
-    fn perform(&mut self, e: TransactionNumber, action: Action, reply: Reply) -> Answer
+    fn perform_known(&mut self, e: TransactionNumber, action: Action, reply: Reply) -> Answer
         requires accepted { refusal_of self.old (request e action) ≡ None }
         requires is_key { ActionKey action }
         requires known { reply ≡ foretold action self.old.state }
@@ -128,7 +149,7 @@ impl Store {
     {
         let reply = self.admit(request)?;
         let e = TransactionNumber::try_from(request.transaction)?;
-        Ok(self.perform(e, request.action, reply))
+        Ok(self.perform_known(e, request.action, reply))
     }
 
     // One step that has been read, or none where a line is no step: refused with nothing changed, or accepted and done.

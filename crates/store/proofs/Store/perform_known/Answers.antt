@@ -2,7 +2,7 @@
 use Rattle.boosting.proofs.Accepted.{accepted_standing}
 use Rattle.boosting.specs.Rows.{roll_back}
 use Rattle.store.proofs.Rows.{no_cue}
-use Rattle.store.proofs.Store.perform.Goals as goal
+use Rattle.store.proofs.Store.perform_known.Goals as goal
 
 pub roll_back-requires : goal.roll_back-requires
 roll_back-requires c = accepted_standing _ _ roll_back (rw c.in-RollBack.is at c.requires.accepted)
