@@ -57,7 +57,9 @@ pub struct WordTable {
 }
 
 impl WordTable {
-    pub fn new() -> WordTable {
+    pub fn new() -> WordTable
+        ensures { result.rows ≡ table_rows }
+    {
         let add = known_word(b"add,", Word::WithCue(CueWord::Add));
         let remove = known_word(b"remove,", Word::WithCue(CueWord::Remove));
         let has = known_word(b"has,", Word::WithCue(CueWord::Has));

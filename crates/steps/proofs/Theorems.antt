@@ -34,7 +34,7 @@ use Rattle.steps.specs.declared.reading.Step.TheVariants.{WithNumber, WithCue}
 use Rattle.step_words.specs.Word.{number_word, cue_word, word_of}
 use Rattle.steps.specs.Step.{numbered, cued, step_with, step_of}
 use Rattle.steps.specs.StepText.{call_text, step_text, NineDigits, NineDigitCall, NineDigitStep}
-use Rattle.steps.specs.Theorems.{StepWriteThenRead, StepReadIsCanonical}
+use Rattle.steps.specs.Theorems.{StepWriteThenRead, EmptyLineIsNoStep, StepReadIsCanonical}
 use Rattle.step_words.proofs.WordText.{is_word}
 use Rattle.steps.proofs.StepText.{number_written, call_written}
 use Rattle.steps.proofs.StepText.{at_comma, not_nil, call_canonical}
@@ -99,3 +99,7 @@ by_word l (Some (of_cue k)) s e read =
 
 pub step_read_is_canonical : StepReadIsCanonical
 step_read_is_canonical l s read = by_word l (word_of (field l)) s refl read
+
+pub empty_line_is_no_step : EmptyLineIsNoStep
+unfolding up_to word_of
+empty_line_is_no_step = refl
