@@ -46,7 +46,7 @@ unfolding reserved_by
 by_ordered [] l o = o
 by_ordered (n ∷ log) l o = grind (arith, once_ordered, by_ordered log l o)
 
-in_ordered : (ts : List Transaction) (l : List ℕ) → Ordered 1 l → Ordered 1 (reserved_in ts l)
+pub in_ordered : (ts : List Transaction) (l : List ℕ) → Ordered 1 l → Ordered 1 (reserved_in ts l)
 unfolding reserved_in
 in_ordered [] l o = o
 in_ordered (t ∷ ts) l o = by_ordered t.log (reserved_in ts l) (in_ordered ts l o)

@@ -46,3 +46,9 @@ written_back r buf mid bytes at h e =
     let w : ◌≡◌ {A = Result ℕ Refusal × List ℕ} (r, mid) (Ok (at + length bytes), sets buf at bytes)
     = e ∙ sym (written buf (sets buf at bytes) bytes at (at + length bytes) h refl refl) in
     (ap (λ p. p.0) w, ap (λ p. p.1) w)
+
+-- the place that a writer answers lies in the buffer
+pub within : (buf mid bytes : List ℕ) (r : Result ℕ Refusal) (at end : ℕ) → (r, mid) ≡ written_at buf at bytes
+    → r ≡ Ok end → end ≤ length buf
+unfolding written_at
+within buf mid bytes r at end e q = grind (arith, e, q)

@@ -22,8 +22,8 @@ use Rattle.scripts.specs.Script.{by_key, by_line, refused_at, read_from, script_
 use Rattle.scripts.specs.Taken.{taken}
 
 -- ---- one key
-pub key_full : (t : List ℕ) (k : ℕ) → length t ≡ 256 → member_of k t ≡ false → Err ScriptFull ≡ by_key t k
-key_full t k h e = rw (e, le-ltb (length t) 256 (omega (arith, h))) refl
+pub key_full : (t : List ℕ) (k : ℕ) → 256 ≤ length t → member_of k t ≡ false → Err ScriptFull ≡ by_key t k
+key_full t k h e = rw (e, le-ltb (length t) 256 h) refl
 
 -- where a full table has the key, one without it has room
 short : (t : List ℕ) (k : ℕ) → length t ≤ 256 → (length t ≡ 256 → member_of k t ≡ true) → member_of k t ≡ false

@@ -2,7 +2,7 @@
 use mathlib.Core.Path.{◌≡◌, refl}
 use mathlib.Core.Bool.{Bool, true, false, ◌||◌}
 use mathlib.Core.List.{List, [], ◌∷◌, ◌++◌}
-use Prim.Native.Nat.{ℕ, suc, ◌+◌, ◌≤◌, ◌<◌}
+use Prim.Native.Nat.{ℕ, zero, suc, ◌+◌, ◌≤◌, ◌<◌}
 use native.Mathlib.Omega.{arith}
 use borrow.Author.Tests.{ltb-true, ne_eqb}
 use lib.Dec.{ltb, eqb}
@@ -141,6 +141,12 @@ pub delete_absent : (k : ℕ) (l : List ℕ) → member_of k l ≡ false → del
 unfolding member_of delete_of
 delete_absent k [] m = refl
 delete_absent k (x ∷ l) m = grind (arith, delete_absent k l)
+
+-- where something is a member there is one
+pub member_count : (k : ℕ) (a : List ℕ) (n : ℕ) → member_of k (take n a) ≡ true → 1 ≤ n
+unfolding member_of
+member_count k a zero m = absurd (mathlib.Core.Bool.false≢true m)
+member_count k a (suc n) m = omega arith
 
 -- two rising lists with the same members are the same list
 pub ext_rising : (l m : List ℕ) → Ordered 1 l → Ordered 1 m → ((x : ℕ) → member_of x l ≡ member_of x m) → l ≡ m
