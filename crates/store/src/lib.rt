@@ -2,8 +2,9 @@
 // that have been read, recovered, and written out.
 //
 // Clauses see the model's store. What opening and stepping keep of it (`Sound`: order, ranges and room) is the type's
-// invariant, so no public function asks for it. `try_request` asks that a call's key is a cue's, and `roll_back` that
-// the transaction is aborting; the others ask for nothing. Each changes the store where it stands: it has 7 kB.
+// invariant, so no public function asks for it. `try_request` and `perform` ask that a call's key is a cue's, `perform`
+// that no row turns the request away, and `roll_back` that the transaction is aborting; the others ask for nothing. Each
+// changes the store where it stands: it has 7 kB.
 #![tactic(auto)]
 
 ghost use Rattle.std.specs.Prelude.{◌≡◌, [], replicate};
@@ -16,6 +17,8 @@ mod recovery;
 mod stepping;
 mod texts;
 
+// Words in any order, which are no store's, are counted and written by these.
+pub use script_texts::{cues_length, write_cues};
 use shared_object::SharedObject;
 use std::array;
 use std::marker::Model;
