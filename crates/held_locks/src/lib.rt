@@ -16,7 +16,7 @@ use std::marker::Model;
 use vocabulary::Lock;
 
 // A transaction may hold each of the queue's modes, so there are three flags and no enum of them.
-#[derive(Drop)]
+#[derive(Clone, Drop)]
 pub struct HeldLocks {
     cues: ArrayVec<u64, 24>,
     pushes: bool,

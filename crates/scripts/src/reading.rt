@@ -13,7 +13,7 @@ use std::marker::Model;
 
 // At most 256 words, each the key of a cue. Clauses see them as they stand: those of a script that is read are in order,
 // each once (`ReadIsSound`); others are written as they are.
-#[derive(Drop)]
+#[derive(Clone, Drop)]
 pub struct Script {
     keys: Words<256>,
 }

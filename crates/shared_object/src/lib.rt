@@ -61,7 +61,7 @@ pub fn answer_of(reply: Reply) -> Answer
 }
 
 // A script of at most 256 cues and a queue of at most 64, each cue by its key.
-#[derive(Drop)]
+#[derive(Clone, Drop)]
 pub struct SharedObject {
     script: SortedKeys<256>,
     queue: SortedKeys<64>,

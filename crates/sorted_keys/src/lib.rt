@@ -19,7 +19,7 @@ pub use search::{rank, stands_at};
 use std::marker::Model;
 pub use words::Words;
 
-#[derive(Drop)]
+#[derive(Clone, Drop)]
 pub struct SortedKeys<const N: usize> {
     keys: Words<N>,
 }

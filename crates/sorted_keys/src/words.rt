@@ -7,7 +7,7 @@ ghost use Rattle.sorted_keys.specs.Least.{least_of, others_of};
 
 use std::marker::Model;
 
-#[derive(Drop)]
+#[derive(Clone, Drop)]
 pub struct Words<const N: usize> {
     words: [u64; N],
     count: usize,

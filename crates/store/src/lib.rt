@@ -24,7 +24,7 @@ use std::array;
 use std::marker::Model;
 use transactions::Transaction;
 
-#[derive(Drop)]
+#[derive(Clone, Drop)]
 pub struct Store {
     object: SharedObject,
     transactions: [Transaction; 8],
@@ -58,6 +58,13 @@ impl Store {
             object: SharedObject::new(),
             transactions: all_closed(),
         }
+    }
+
+    // The store as it stands, once more. `clone` answers a `Result`, as each clone does; here that is always `Ok`.
+    pub fn copy(&self) -> Self
+        ensures { result ≡ self.now }
+    {
+        self.clone().unwrap()
     }
 
     // The script and the queue.

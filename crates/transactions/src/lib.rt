@@ -21,7 +21,7 @@ use vocabulary::{Entry, Lock, Standing};
 
 // A closed one has no lock and no entry. An enum with both in its arms would be taken apart wherever one of the three
 // is asked, and its closed arm would have to make them for those who ask.
-#[derive(Drop)]
+#[derive(Clone, Drop)]
 pub struct Transaction {
     standing: Standing,
     locks: HeldLocks,

@@ -12,7 +12,7 @@ use arrayvec::ArrayVec;
 use std::marker::Model;
 use vocabulary::Entry;
 
-#[derive(Drop)]
+#[derive(Clone, Drop)]
 pub struct UndoLog {
     entries: ArrayVec<Entry, 16>,
     takes: u8,

@@ -1,1 +1,3 @@
+pub mod Case
+pub mod Examples
 pub mod Printed
