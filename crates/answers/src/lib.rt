@@ -78,7 +78,7 @@ pub fn write_answer(buf: &mut [u8], at: usize, answer: Answer) -> Result<usize, 
 }
 
 // How many bytes the line of a refusal has, with its LF.
-#[tactic(auto, using(records::proofs::Laws::field_length, records::proofs::Laws::record_length), unfolding(crate::specs::Answer::refusal_text))]
+#[tactic(auto, using(records::proofs::Laws::field_length), unfolding(crate::specs::Answer::refusal_text))]
 fn refusal_length(refusal: Refusal) -> usize
     ensures { result ≡ length (refusal_text refusal) }
 {

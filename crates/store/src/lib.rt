@@ -2,9 +2,9 @@
 // that have been read, recovered, and written out.
 //
 // Clauses see the model's store. What opening and stepping keep of it (`Sound`: order, ranges and room) is the type's
-// invariant, so no public function asks for it. `try_request` and `perform` ask that a call's key is a cue's, `perform`
-// that no row turns the request away, and `roll_back` that the transaction is aborting; the others ask for nothing. Each
-// changes the store where it stands: it has 7 kB.
+// invariant, so no public function asks for it. `try_request` and `perform` ask that a call's key is a cue's,
+// `perform` that no row turns the request away, and `roll_back` that the transaction is aborting; the others ask for
+// nothing. Each changes the store where it stands: it has 7 kB.
 #![tactic(auto)]
 
 ghost use Rattle.std.specs.Prelude.{◌≡◌, [], replicate};
