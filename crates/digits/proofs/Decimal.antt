@@ -24,3 +24,5 @@ decimal_digits n w = decimal_at 19 n (omega arith) w
 
 pub digits_in_room : (n : ℕ) → length (digits_of n) ≤ 20
 digits_in_room n = digits_bounded 19 n
+
+pub ruleset count_rules = (decimal_digits, digits_in_room, digits_small)

@@ -12,11 +12,15 @@ use buffers::write_bytes;
 use refusals::Refusal;
 
 // How many digits n has.
-#[tactic(auto, using(crate::proofs::Decimal::decimal_digits, crate::proofs::Decimal::digits_in_room))]
+#[tactic(auto, using(crate::proofs::Decimal::count_rules))]
 pub fn digit_count(n: u64) -> usize
     ensures counted { result ≡ length (digits_of n) }
     ensures short { result ≤ 20 }
 {
+    // Most numbers that are counted have one digit, and need no digits made.
+    if n < 10 {
+        return 1;
+    }
     let mut digits = itoa::Buffer::new();
     digits.format(n).len()
 }

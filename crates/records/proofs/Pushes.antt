@@ -1,5 +1,5 @@
 -- Laws of pushing bytes behind a line: they fit, or they do not. Assumes nothing.
-use Rattle.std.proofs.Common.{◌≡◌, ℕ, ◌+◌, ◌≤◌, ◌<◌, List, ◌++◌, length, arith}
+use Rattle.std.proofs.Common.{◌≡◌, ℕ, ◌+◌, ◌≤◌, ◌<◌, List, ◌++◌, length}
 use Rattle.records.specs.Pushed.{pushed}
 use borrow.Author.Tests.{le-leb, lt-leb}
 
