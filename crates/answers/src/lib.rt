@@ -89,8 +89,8 @@ fn refusal_length(refusal: Refusal) -> usize
     9 + digit_count(refusal.number())
 }
 
-// How many bytes the line of an answer has, with its LF. No line is composed: a session that is only counted asks this
-// at each step, and took twice the time with composed ones.
+// How many bytes the line of an answer has, with its LF. They are counted, as those of a cue's line are (`cue_length`),
+// and no line is composed for it.
 #[tactic(auto, using(records::proofs::Laws::field_length))]
 pub fn answer_length(answer: Answer) -> usize
     ensures { result ≡ length (answer_text answer) }

@@ -1,9 +1,9 @@
-// A short line, composed on the stack before it is written: so that all of it is written or nothing, and its bytes are
-// counted nowhere else.
+// A short line, composed on the stack before it is written: so that all of it is written or nothing. Where a line is
+// counted and not written, none is composed (`answers`, `cue_texts`).
 //
 // What does not fit is left out, and the clauses say so (`pushed`): so no push asks for room, and none has an error to
 // handle. Lines have no `Display`: what `fmt` has written where it fails, no clause says.
-ghost use Rattle.std.specs.Prelude.{◌≡◌, ◌+◌, ◌<◌, ◌≤◌, ℕ, List, [], ◌∷◌, ◌++◌, length};
+ghost use Rattle.std.specs.Prelude.{◌≡◌, ◌+◌, ◌≤◌, ℕ, List, [], ◌∷◌, ◌++◌, length};
 ghost use Rattle.digits.specs.Digits.{digits_of};
 ghost use Rattle.records.specs.Pushed.{pushed};
 ghost use Rattle.records.specs.Record.{field_text};

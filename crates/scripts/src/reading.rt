@@ -11,8 +11,8 @@ use refusals::{Refusal, RefusedText, check_length};
 use sorted_keys::{SortedKeys, Words};
 use std::marker::Model;
 
-// At most 256 words, each the key of a cue. Clauses see them as they stand: those of a script that is read are in
-// order, each once (`ReadIsSound`); others are written as they are.
+// At most 256 words, each written as the cue that `Cue::of_key` makes of it. Clauses see them as they stand: those of a
+// script that is read are in order, each once (`ReadIsSound`).
 #[derive(Clone, Drop)]
 pub struct Script {
     keys: Words<256>,

@@ -30,7 +30,8 @@ use Rattle.step_words.specs.declared.NumberWord.TheVariants.{Begin}
 use Rattle.step_words.specs.declared.CueWord.{CueWord}
 use Rattle.step_words.specs.declared.CueWord.TheVariants.{Add}
 use Rattle.step_words.specs.Word.{number_word, cue_word}
-use Rattle.answers.specs.declared.Answer.TheVariants.{Left}
+use Rattle.answers.specs.declared.Answer.{Answer}
+use Rattle.answers.specs.declared.Answer.TheVariants.{Cue as CueAnswer, Left, Refused}
 use Rattle.steps.specs.Step.{step_of}
 use Rattle.steps.specs.StepText.{step_text}
 use Rattle.answers.specs.Answer.{refusal_text, answer_text}
@@ -86,6 +87,27 @@ cue_at_most k =
     let m = digits_at_most 2 19 c.«module» (omega arith) in
     let p = digits_at_most 2 19 c.pin (omega arith) in
     omega (arith, text_length c, field_length c.time 44, field_length c.«module» 44, field_length c.pin 10)
+
+-- the line of any answer
+pub line_at_most : (a : Answer) → length (answer_text a) ≤ 72
+line_at_most (CueAnswer c) =
+    let t = digits_bounded 19 c.time in
+    let m = digits_bounded 19 c.«module» in
+    let p = digits_bounded 19 c.pin in
+    omega (
+      arith,
+      length-append (bytes "cue,") (cue_text c),
+      text_length c,
+      field_length c.time 44,
+      field_length c.«module» 44,
+      field_length c.pin 10,
+      t,
+      m,
+      p,
+    )
+line_at_most (Left n) = omega (arith, left_at_most n)
+line_at_most (Refused r) = omega (arith, refusal_at_most r)
+line_at_most _ = omega arith
 
 reply_at_most : (r : Reply) → length (answer_text (answer_of r)) ≤ 40
 reply_at_most (is_cue k) = omega (arith, length-append (bytes "cue,") (cue_text (cue_of k)), cue_at_most k)

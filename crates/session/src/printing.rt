@@ -1,16 +1,16 @@
 // What a session prints, part behind part: put into a buffer where it is kept, or only counted.
 //
-// `keep` says which. A text that is counted leaves the buffer alone, which may then be empty. A closure or a type in
-// place of `keep` would compile the engine twice, which costs a fifth of the speed; a `dyn` would be a trait and two
-// impls for one flag; an `Option` of the buffer would be lent anew at each line, and each clause would take it apart.
-// Buffer, `keep` and place are three parameters, and the room is asked for in each function: it is the room of the text
-// that comes, which no type of the three can know.
+// `keep` says which; what is counted needs a buffer of one line. A closure or a type in place of `keep` would compile
+// the engine twice, which costs a fifth of the speed; a `dyn` would be a trait and two impls for one flag; an `Option`
+// of the buffer would be lent anew at each line, and each clause would take it apart. Buffer, `keep` and place are three
+// parameters, and the room is asked for in each function: it is the room of the text that comes, which no type of the
+// three can know.
 ghost use Rattle.answers.specs.Answer.{answer_text};
 ghost use Rattle.closing_lists.specs.Closing.{closing_text};
 ghost use Rattle.session.specs.Output.{start_refused};
 ghost use Rattle.session.specs.Printing.{HasRoom, Printed};
 
-use answers::{Answer, answer_length};
+use answers::Answer;
 use closing_lists::{closing_length, write_closing};
 use digits::digit_count;
 use records::write_record;
@@ -18,15 +18,15 @@ use refusals::RefusedText;
 use shared_object::SharedObject;
 use short_answers::append_answer;
 
-// The line of an answer: the place behind it.
+// The line of an answer: the place behind it. A session that is counted puts each line over the last one: it takes the
+// same branches as one that is kept, and the second of the two runs of a short buffer finds them learned.
 pub fn put_answer(buf: &mut [u8], keep: bool, at: usize, answer: Answer) -> usize
     requires { HasRoom keep buf.old at (answer_text answer) }
     ensures { Printed keep buf.old at (answer_text answer) result buf.new }
 {
-    if keep {
-        return append_answer(buf, at, answer);
-    }
-    at + answer_length(answer)
+    let place = if keep { at } else { 0 };
+    let end = append_answer(buf, place, answer);
+    at + (end - place)
 }
 
 // The closing lists: the place behind them. By `unwrap_or`, here and below, though there is room: with `unwrap` the

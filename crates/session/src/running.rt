@@ -1,5 +1,5 @@
 // A whole session: the store started, stepped and recovered, and what it prints.
-ghost use Rattle.std.specs.Prelude.{◌≡◌, true, ◌≤◌, length};
+ghost use Rattle.std.specs.Prelude.{◌≡◌, true, false, ◌≤◌, length};
 ghost use Rattle.buffers.specs.Written.{written_at};
 ghost use Rattle.lines.specs.Lines.{lines_of};
 ghost use Rattle.session.specs.Output.{run_text, output_of};
@@ -13,6 +13,9 @@ use store::Store;
 
 // As many bytes hold the output of every input.
 pub const ROOM: usize = 659860;
+
+// As many bytes hold the line of every answer.
+const LONGEST_LINE: usize = 72;
 
 // Steps through the lines and recovers: the place behind the answers and the closing lists.
 fn run_steps(buf: &mut [u8], keep: bool, store: &mut Store, text: &[u8]) -> usize
@@ -28,7 +31,8 @@ fn run_steps(buf: &mut [u8], keep: bool, store: &mut Store, text: &[u8]) -> usiz
 // all of it has. One function for both, so that the engine is compiled once.
 #[inline(never)]
 fn play(buf: &mut [u8], keep: bool, input: &[u8]) -> usize
-    requires { keep ≡ true → length (output_of input.now) ≤ length buf.old }
+    requires kept { keep ≡ true → length (output_of input.now) ≤ length buf.old }
+    requires counted { keep ≡ false → 72 ≤ length buf.old }
     ensures { Printed keep buf.old 0 (output_of input.now) result buf.new }
 {
     let mut store = Store::new();
@@ -42,7 +46,7 @@ fn play(buf: &mut [u8], keep: bool, input: &[u8]) -> usize
 pub fn session_length(input: &[u8]) -> usize
     ensures { result ≡ length (output_of input.now) }
 {
-    play(&mut [], false, input)
+    play(&mut [0; LONGEST_LINE], false, input)
 }
 
 // Writes what the program prints for an input to the front of the buffer, if it fits there. A buffer of `ROOM` bytes

@@ -116,9 +116,9 @@ impl Store {
         self.perform_known(e, action, reply)
     }
 
-    // An accepted request is done, whose reply is known. That a call's key is a cue's, and that the reply is the
-    // object's, is asked here and in two more functions: `Call` is the model's own type, which has no invariant, and no
-    // type of call and reply could know the object as it stands.
+    // An accepted request is done, whose reply is known. That a call's key is a cue's is asked here and in three more
+    // functions, that the reply is the object's in two more: `Call` is the model's own type, which has no invariant,
+    // and no type of call and reply could know the object as it stands.
     #[inline(always)]
     fn perform_known(&mut self, e: TransactionNumber, action: Action, reply: Reply) -> Answer
         requires accepted { refusal_of self.old (request e action) ≡ None }

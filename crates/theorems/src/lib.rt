@@ -1,7 +1,7 @@
 // The theorems about the desk's definitions, each a clause in the contract of a function, a function a subject.
 //
 // The functions take nothing and do nothing: a clause of theirs holds of all texts, stores and lists of steps at once,
-// and a theorem that is cut or weakened shows here. What it says stands in the `specs/` of the crate that it is about.
+// and a theorem that is cut shows here. What it says stands in the `specs/` of the crate that it is about.
 #![tactic(auto)]
 
 mod program; // program.rt: the desk's input and output, the lock sheet, the worked runs

@@ -1,4 +1,4 @@
-use Rattle.std.proofs.Common.{arith}
+use Rattle.std.proofs.Common.{arith, refl}
 use Rattle.session.proofs.Parts.{by_writer}
 use Rattle.session.proofs.Fitting.{refused_length}
 use Rattle.session.proofs.printing.put_refused.Goals as goal
@@ -13,4 +13,4 @@ returns c =
     let k = c.if-keep.false in
     let n = rw c.number-number.ensures.is_the_row at c.digit_count.ensures.counted in
     let r = c.args.refused in
-    record { place = omega (arith, n, refused_length r.refusal r.line); stored = λ t. cc }
+    record { place = omega (arith, n, refused_length r.refusal r.line); long = refl; stored = λ t. cc }
