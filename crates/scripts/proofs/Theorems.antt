@@ -20,7 +20,7 @@ use Rattle.cues.proofs.Theorems.{key_is_cue_key}
 use Rattle.cue_texts.proofs.Theorems.{body_text, cue_line_no_lf, cue_line_short}
 use Rattle.cue_lines.proofs.Theorems.{cue_write_then_read, cue_read_is_canonical}
 use Rattle.tables.specs.Table.{From, Ordered, member_of, insert_of}
-use Rattle.tables.proofs.Laws.{split, length_insert, member_insert, ext_rising}
+use Rattle.tables.proofs.Laws.{split, Ordered-weaken, length_insert, member_insert, ext_rising}
 use Rattle.scripts.specs.Script.{by_key, by_line, onward, read_from, script_of, script_or_empty}
 use Rattle.scripts.specs.ScriptText.{text_of}
 use Rattle.scripts.specs.Theorems.{
@@ -109,6 +109,13 @@ unfolding script_of
 read_is_sound s =
     split (ltb 65536 (length s)) (λ e. rw e empty_sound)
     (λ e. rw e (lines_sound (lines_of s) [] 1 empty_sound))
+
+-- the keys of a text's script are in order
+pub read_in_order : (t s : List ℕ) → Ok t ≡ script_of s → Ordered 0 t
+read_in_order t s e =
+    let is : t ≡ script_or_empty (script_of s) = ap script_or_empty e in
+    let sound = read_is_sound s in
+    rw is (Ordered-weaken 1 (script_or_empty (script_of s)) sound.rising)
 
 -- ---- written, then read
 pub text_lines : (t : List ℕ) → lines_of (text_of t) ≡ map (λ k. cue_body (cue_of k)) t

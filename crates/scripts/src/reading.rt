@@ -1,7 +1,8 @@
 // Script texts, read into a sorted table of keys.
-ghost use Rattle.std.specs.Prelude.{◌≡◌, ℕ, List, [], ◌≤◌, length, take};
+ghost use Rattle.std.specs.Prelude.{◌≡◌, ℕ, List, [], ◌≤◌, length, take, Ok};
 ghost use Rattle.lines.specs.Lines.{lines_of};
 ghost use Rattle.cue_lines.specs.CueLine.{cue_line_of};
+ghost use Rattle.tables.specs.Table.{Ordered};
 ghost use Rattle.scripts.specs.Script.{by_key, by_line, read_from, script_of};
 ghost use Rattle.scripts.specs.Taken.{taken};
 
@@ -43,9 +44,12 @@ impl Script {
         script
     }
 
+    // Those of a script that is read are in order, and so are those of the empty one.
+    #[tactic(auto, using(crate::proofs::Theorems::read_in_order))]
     pub fn keys(&self) -> &[u64]
         ensures value { result.now ≡ self.now }
         ensures fits { length result.now ≤ 256 }
+        ensures in_order { (text : List ℕ) → Ok self.now ≡ script_of text → Ordered 0 self.now }
     {
         self.keys.as_slice()
     }
@@ -97,4 +101,24 @@ pub fn read_script(text: &[u8]) -> Result<Script, RefusedText>
     Ok(Script {
         keys: keys.into_words(),
     })
+}
+
+#[cfg(test)]
+mod tests {
+    use super::*;
+    use std::test::Fail;
+
+    // The lines stand in any order, one of them twice.
+    #[test]
+    fn keys_of_a_text_in_order(rt: HostRuntime) -> Result<(), Fail> {
+        let script = read_script(b"1,1,1\n0,2,1\n0,1,1\n0,2,1\n")?;
+        assert_eq!(rt; script.keys(), [257, 513, 65793].as_slice());
+        Ok(())
+    }
+
+    #[test]
+    fn keys_of_words_as_they_stand(rt: HostRuntime) {
+        let script = Script::of_keys(&[513, 257, 513]);
+        assert_eq!(rt; script.keys(), [513, 257, 513].as_slice());
+    }
 }

@@ -112,4 +112,4 @@ module _ (keep : Bool) (buf₀ : List ℕ) (d₀ : Store) (ls₀ : List (List �
       → Printed keep buf₀ 0 (answer_lines d₀ ls₀) end buf × (d ≡ (run d₀ ls₀).store)
   none_left left e v =
       let u : Left keep buf₀ d₀ ls₀ buf end d [] = rw (← e) v in
-      (u.printed end buf (record { place = omega arith; long = refl; stored = λ k. refl }), u.store)
+      (u.printed end buf (record { place = omega arith; stored = λ k. refl }), u.store)

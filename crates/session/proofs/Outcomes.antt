@@ -1,6 +1,6 @@
 -- What is printed, by the outcome of the start text. Assumes nothing.
 use mathlib.Core.Path.{◌≡◌, refl, sym, ap, ◌∙◌}
-use mathlib.Core.Bool.{Bool, true, false}
+use mathlib.Core.Bool.{Bool, true}
 use mathlib.Core.List.{List, ◌++◌}
 use Prim.Native.Nat.{ℕ, ◌-◌, ◌≤◌}
 use native.Mathlib.Omega.{arith}
@@ -92,6 +92,6 @@ run_parted d d₁ d₂ ls s e₁ e₂ e = run_parts d ls ∙ rw (e, e₂, e₁)
 
 -- ---- the room for an output
 pub output_room : (keep : Bool) (buf s text : List ℕ) → (keep ≡ true → length (output_of s) ≤ length buf)
-    → (keep ≡ false → 72 ≤ length buf) → text ≡ output_of s → HasRoom keep buf 0 text
-output_room keep buf s text h l e =
-    rw e (record { in_count = omega (arith, output_fits s); in_buffer = λ k. omega (arith, h k); one_line = l })
+    → text ≡ output_of s → HasRoom keep buf 0 text
+output_room keep buf s text h e =
+    rw e (record { in_count = omega (arith, output_fits s); in_buffer = λ k. omega (arith, h k) })

@@ -1,9 +1,9 @@
 // A whole session: the store started, stepped and recovered, and what it prints.
-ghost use Rattle.std.specs.Prelude.{◌≡◌, true, false, ◌≤◌, length};
+ghost use Rattle.std.specs.Prelude.{◌≡◌, true, ◌≤◌, length};
 ghost use Rattle.buffers.specs.Written.{written_at};
 ghost use Rattle.lines.specs.Lines.{lines_of};
 ghost use Rattle.session.specs.Output.{run_text, output_of};
-ghost use Rattle.session.specs.Printing.{HasRoom, Printed};
+ghost use Rattle.session.specs.Printing.{HasRoom, HoldsOneLine, Printed};
 
 use crate::answering::answer_lines;
 use crate::printing::{put_closing, put_refused};
@@ -19,8 +19,10 @@ const LONGEST_LINE: usize = 72;
 
 // Steps through the lines and recovers: the place behind the answers and the closing lists.
 fn run_steps(buf: &mut [u8], keep: bool, store: &mut Store, text: &[u8]) -> usize
-    requires { HasRoom keep buf.old 0 (run_text store.old (lines_of text.now)) }
-    ensures { Printed keep buf.old 0 (run_text store.old (lines_of text.now)) result buf.new }
+    requires room { HasRoom keep buf.old 0 (run_text store.old (lines_of text.now)) }
+    requires counted { HoldsOneLine keep buf.old }
+    ensures printed { Printed keep buf.old 0 (run_text store.old (lines_of text.now)) result buf.new }
+    ensures long { length buf.new ≡ length buf.old }
 {
     let end = answer_lines(buf, keep, store, text);
     store.recover();
@@ -32,8 +34,9 @@ fn run_steps(buf: &mut [u8], keep: bool, store: &mut Store, text: &[u8]) -> usiz
 #[inline(never)]
 fn play(buf: &mut [u8], keep: bool, input: &[u8]) -> usize
     requires kept { keep ≡ true → length (output_of input.now) ≤ length buf.old }
-    requires counted { keep ≡ false → 72 ≤ length buf.old }
-    ensures { Printed keep buf.old 0 (output_of input.now) result buf.new }
+    requires counted { HoldsOneLine keep buf.old }
+    ensures printed { Printed keep buf.old 0 (output_of input.now) result buf.new }
+    ensures long { length buf.new ≡ length buf.old }
 {
     let mut store = Store::new();
     match start_session(&mut store, input) {

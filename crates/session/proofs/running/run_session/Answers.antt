@@ -6,5 +6,5 @@ use Rattle.session.proofs.running.run_session.Goals as goal
 
 pub returns : goal.returns
 returns c =
-    let p = c.play.ensures in
+    let p = c.play.ensures.printed in
     written _ _ _ _ _ (grind (arith, output_fits)) p.place (p.stored refl)
