@@ -3,9 +3,8 @@ use Rattle.std.proofs.Common.{◌≡◌, ℕ, List, [], replicate, sym, ap, subs
 use Rattle.std.specs.Prelude.{Result, Ok}
 use Rattle.refusals.specs.declared.RefusedText.{RefusedText}
 use Rattle.tables.specs.Table.{Ordered}
-use Rattle.tables.proofs.Laws.{Ordered-weaken}
 use Rattle.scripts.specs.Script.{script_of, script_or_empty}
-use Rattle.scripts.proofs.Theorems.{read_is_sound}
+use Rattle.scripts.proofs.Theorems.{read_in_order}
 use Rattle.boosting.specs.Object.{State}
 use Rattle.boosting.specs.Store.{Transaction, closed_transaction, started, opened}
 use Rattle.boosting.specs.Sound.{Sound}
@@ -32,9 +31,7 @@ accepted_keys r keys script p q = p ∙ ap script_or_empty q
 
 -- those of a script that was read are in order
 pub keys_in_order : (keys script text : List ℕ) → keys ≡ script → Ok script ≡ script_of text → Ordered 0 keys
-keys_in_order keys script text p is =
-    let sound = read_is_sound text in
-    rw (accepted_keys (script_of text) keys script p is) (Ordered-weaken 1 (script_or_empty (script_of text)) sound.rising)
+keys_in_order keys script text p is = rw p (read_in_order script text is)
 
 -- the store of a text, whose script these keys are
 module _ (s : State) (ts : List Transaction) (keys text : List ℕ) (q : s ≡ started keys)
